@@ -1,7 +1,7 @@
 -- The tokens of a text, found in one pass from the left.
-use Rattle.std.specs.Prelude.{◌≡◌, ℕ, zero, suc, ◌+◌, ◌-◌, ◌*◌, ◌^◌, Bool, true, false, not, ◌&&◌, ◌||◌, if◌then◌else◌, ◌==◌, nat_le, nat_lt, List, [], ◌∷◌, length, take, drop, fold, slice_index, Option, Some, None, codes, eqb}
+use Rattle.std.specs.Prelude.{ℕ, zero, suc, ◌+◌, ◌-◌, ◌*◌, ◌^◌, Bool, false, not, ◌&&◌, ◌||◌, if◌then◌else◌, ◌==◌, nat_le, nat_lt, List, [], ◌∷◌, length, take, drop, fold, slice_index, Option, Some, None, codes, eqb}
 use Rattle.std.specs.Char.{is_ascii_digit, is_ascii_alphanumeric}
-use Rattle.std.specs.List.{prefix_len, starts_with}
+use Rattle.std.specs.List.{list_all, prefix_len, starts_with}
 use Rattle.c_tokens.specs.declared.token.Sign.{Sign}
 use Rattle.c_tokens.specs.declared.token.Sign.TheVariants as s
 use Rattle.c_tokens.specs.declared.token.Token.{Token}
@@ -9,7 +9,7 @@ use Rattle.c_tokens.specs.declared.token.Token.TheVariants as t
 use Rattle.c_tokens.specs.declared.pieces.Margin.{Margin}
 use Rattle.c_tokens.specs.declared.pieces.Margin.TheVariants as m
 use Rattle.c_tokens.specs.declared.pieces.Piece.{Piece}
-use Rattle.c_tokens.specs.Signs.{spelling, signs, words, keywords, first_of, spelled, is_among}
+use Rattle.c_tokens.specs.Signs.{spelling, sign_at, word_of, is_keyword, is_among}
 use Rattle.c_tokens.specs.Lines.{prelude}
 
 -- ---- bytes
@@ -34,8 +34,7 @@ abbrev pub value : List ℕ → ℕ
 value = fold (λ n b. 10 * n + (b - 48)) 0
 
 abbrev pub are_digits : List ℕ → Bool
-are_digits [] = true
-are_digits (b ∷ z) = is_ascii_digit b && are_digits z
+are_digits = list_all is_ascii_digit
 
 abbrev pub has_leading_zero : List ℕ → Bool
 has_leading_zero run = slice_index run 0 == 48 && nat_lt 1 (length run)
@@ -46,7 +45,7 @@ number run = if are_digits run && not (has_leading_zero run) && nat_lt (value ru
 
 -- a name, which has at most 63 bytes and is no keyword of C
 abbrev pub name : List ℕ → Token
-name run = if is_among keywords run then t.Sign s.Reserved else (if nat_le (length run) 63 then t.Name run else t.Bad)
+name run = if is_keyword run then t.Sign s.Reserved else (if nat_le (length run) 63 then t.Name run else t.Bad)
 
 abbrev pub word_by : Option Sign → List ℕ → Token
 word_by (Some sign) run = t.Sign sign
@@ -54,7 +53,7 @@ word_by None run = name run
 
 -- what a whole run is
 unfoldable pub token_of_run : List ℕ → Token
-token_of_run run = if is_ascii_digit (slice_index run 0) then number run else word_by (spelled words run) run
+token_of_run run = if is_ascii_digit (slice_index run 0) then number run else word_by (word_of run) run
 
 -- ---- the piece at the front of a text that isn't empty
 
@@ -90,21 +89,21 @@ closing at [] = None
 closing at (b ∷ z) = if b == 42 && slice_index z 0 == 47 then Some (at + 2) else closing (at + 1) z
 
 abbrev pub closed : Option ℕ → List ℕ → Piece
-closed (Some len) text = gap len
+closed (Some len) text = gap (len + 2)
 closed None text = stuck text
 
--- a comment to the end of the line, or up to `*/`
+-- a comment to the end of the line, or from `/*` up to `*/`
 unfoldable pub comment : List ℕ → Piece
 comment text =
     if slice_index text 1 == 47 then gap (line_len text)
-    else (if slice_index text 1 == 42 then closed (closing 2 (drop 2 text)) text else stuck text)
+    else (if slice_index text 1 == 42 then closed (closing 0 (drop 2 text)) text else stuck text)
 
 abbrev pub sign_by : Option Sign → List ℕ → Piece
 sign_by (Some sign) text = taken (t.Sign sign) (length (spelling sign))
 sign_by None text = stuck text
 
 unfoldable pub sign : List ℕ → Piece
-sign text = sign_by (first_of signs text) text
+sign text = sign_by (sign_at text) text
 
 -- a line that is skipped whole: one whose first bytes but for blanks are `#include`, or that is a line of the prelude
 abbrev pub is_skipped : Margin → List ℕ → Bool
@@ -142,5 +141,5 @@ unfoldable pub tokens_of : List ℕ → List Token
 tokens_of = tokens_from 0 m.Start
 
 -- the tokens of what follows a token in its line
-unfoldable pub tokens_after : List ℕ → List Token
+abbrev pub tokens_after : List ℕ → List Token
 tokens_after = tokens_from 0 m.Past

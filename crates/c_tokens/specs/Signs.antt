@@ -1,11 +1,11 @@
 -- How signs and words are spelled, and which of them stands at the front of a text.
-use Rattle.std.specs.Prelude.{◌≡◌, ◌≢◌, ℕ, ◌≤◌, Bool, false, ◌||◌, if◌then◌else◌, List, [], ◌∷◌, ◌++◌, length, Option, Some, None, codes, eqb, bytes_eq}
+use Rattle.std.specs.Prelude.{◌≡◌, ℕ, ◌≤◌, Bool, false, ◌||◌, if◌then◌else◌, ◌⊎◌, List, [], ◌∷◌, ◌++◌, length, Option, Some, None, codes, eqb, bytes_eq}
 use Rattle.std.specs.List.{starts_with}
 use Rattle.c_tokens.specs.declared.token.Sign.{Sign}
 use Rattle.c_tokens.specs.declared.token.Sign.TheVariants as s
 
 -- The text of a sign. `Reserved` stands for many words and has no text of its own.
-unfoldable pub spelling : Sign → List ℕ
+abbrev pub spelling : Sign → List ℕ
 spelling s.Pragma = codes "#pragma"
 spelling s.Open = codes "("
 spelling s.Close = codes ")"
@@ -79,6 +79,17 @@ abbrev pub is_among : List (List ℕ) → List ℕ → Bool
 is_among [] text = false
 is_among (l ∷ ls) text = bytes_eq text l || is_among ls text
 
+-- the sign that is taken at the front of a text
+unfoldable pub sign_at : List ℕ → Option Sign
+sign_at = first_of signs
+
+-- the word of the language that is spelled so
+unfoldable pub word_of : List ℕ → Option Sign
+word_of = spelled words
+
+unfoldable pub is_keyword : List ℕ → Bool
+is_keyword = is_among keywords
+
 -- ---- what a sign at the front means
 
 -- the sign is one of the list
@@ -95,8 +106,3 @@ pub record IsLongestSign (text : List ℕ) (s : Sign) : Type 0 where
   pub listed : IsOneOf signs s
   pub begins : Begins text s
   pub longest : (other : Sign) → IsOneOf signs other → Begins text other → length (spelling other) ≤ length (spelling s)
-
--- the sign is spelled so
-pub record IsSpelled (word : List ℕ) (s : Sign) : Type 0 where
-  pub listed : IsOneOf words s
-  pub spelled : word ≡ spelling s

@@ -7,7 +7,7 @@ mod signs;
 mod token;
 mod tokens;
 
-pub use prelude::PRELUDE;
-pub use signs::spelling;
+pub use prelude::{PRELUDE, prelude_lines};
+pub use signs::{longest_sign, spelling};
 pub use token::{Sign, Token};
 pub use tokens::{Tokens, Unexpected};

@@ -51,6 +51,7 @@ fn byte(text: &[u8], at: usize) -> u8
 fn run_len(text: &[u8]) -> usize
     ensures value { result ≡ spec.run_len text.now }
     ensures within { result ≤ length text.now }
+    ensures moves { spec.is_word_byte (slice_index text.now 0) ≡ true → 0 < length text.now → 1 ≤ result }
 {
     let mut end = 0;
     while end < text.len() && is_word_byte(text[end]) {
@@ -62,6 +63,7 @@ fn run_len(text: &[u8]) -> usize
 fn line_len(text: &[u8]) -> usize
     ensures value { result ≡ spec.line_len text.now }
     ensures within { result ≤ length text.now }
+    ensures moves { slice_index text.now 0 ≢ 10 → 0 < length text.now → 1 ≤ result }
 {
     let mut end = 0;
     while end < text.len() && text[end] != b'\n' {
@@ -71,14 +73,16 @@ fn line_len(text: &[u8]) -> usize
 }
 
 // The number that digits are, unless it is 2^64 or more.
+#[tactic(auto, using(crate::proofs::Digits::value_at))]
 fn value(digits: &[u8]) -> Option<u64>
-    requires { spec.are_digits digits.now ≡ true }
     ensures fits { IfSome result (λ n. n ≡ spec.value digits.now) }
     ensures large { result ≡ None → 2 ^ 64 ≤ spec.value digits.now }
 {
     let mut n = 0u64;
     for b in digits {
-        n = n.checked_mul(10)?.checked_add((*b - b'0') as u64)?;
+        n = n
+            .checked_mul(10)?
+            .checked_add(u64::from(b.saturating_sub(b'0')))?;
     }
     Some(n)
 }
@@ -114,6 +118,7 @@ fn name(run: &[u8]) -> Token
     }
 }
 
+#[tactic(auto, unfolding(crate::specs::Pieces::token_of_run))]
 fn token_of_run(run: &[u8]) -> Token
     requires { 1 ≤ length run.now }
     ensures { result ≡ spec.token_of_run run.now }
@@ -174,6 +179,7 @@ fn space(margin: Margin, b: u8) -> Piece
     }
 }
 
+// The place behind the first `*/`, for what stands behind `/*`.
 fn closing(text: &[u8]) -> Option<usize>
     ensures value { result ≡ spec.closing 0 text.now }
     ensures within { IfSome result (λ end. end ≤ length text.now) }
@@ -186,10 +192,12 @@ fn closing(text: &[u8]) -> Option<usize>
     None
 }
 
+#[tactic(auto, unfolding(crate::specs::Pieces::comment))]
 fn comment(text: &[u8]) -> Piece
-    requires { 1 ≤ length text.now }
+    requires { slice_index text.now 0 ≡ 47 }
     ensures value { result ≡ spec.comment text.now }
     ensures within { (1 ≤ result.len) × (result.len ≤ length text.now) }
+    ensures past { result.margin ≡ Margin.Past }
 {
     match byte(text, 1) {
         b'/' => gap(line_len(text)),
@@ -201,10 +209,12 @@ fn comment(text: &[u8]) -> Piece
     }
 }
 
+#[tactic(auto, unfolding(crate::specs::Pieces::sign))]
 fn sign(text: &[u8]) -> Piece
     requires { 1 ≤ length text.now }
     ensures value { result ≡ spec.sign text.now }
     ensures within { (1 ≤ result.len) × (result.len ≤ length text.now) }
+    ensures past { result.margin ≡ Margin.Past }
 {
     match longest_sign(text) {
         Some(sign) => taken(Token::Sign(sign), spelling(sign).len()),
@@ -224,10 +234,12 @@ fn is_skipped(margin: Margin, text: &[u8]) -> bool
     }
 }
 
+#[tactic(auto, unfolding(crate::specs::Pieces::hash))]
 fn hash(margin: Margin, text: &[u8]) -> Piece
-    requires { 1 ≤ length text.now }
+    requires { slice_index text.now 0 ≡ 35 }
     ensures value { result ≡ spec.hash margin text.now }
     ensures within { (1 ≤ result.len) × (result.len ≤ length text.now) }
+    ensures past { result.margin ≡ Margin.Past }
 {
     if is_skipped(margin, text) {
         gap(line_len(text))
@@ -236,6 +248,7 @@ fn hash(margin: Margin, text: &[u8]) -> Piece
     }
 }
 
+#[tactic(auto, unfolding(crate::specs::Pieces::piece))]
 pub fn first_piece(margin: Margin, text: &[u8]) -> Piece
     requires { 1 ≤ length text.now }
     ensures value { result ≡ spec.piece margin text.now }

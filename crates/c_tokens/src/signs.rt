@@ -1,5 +1,6 @@
 // Signs and words, by their spelling.
-ghost use Rattle.std.specs.Prelude.{◌≡◌, IfSome, IfNone, map};
+ghost use Rattle.std.specs.Prelude.{◌≡◌, ◌≤◌, IfSome, IfNone, length, map};
+ghost use Rattle.c_tokens.specs.declared.token.Sign.{Sign};
 ghost use Rattle.c_tokens.specs.Signs as spec;
 ghost use Rattle.c_tokens.specs.Signs.{IsLongestSign, IsOneOf, Begins};
 
@@ -135,10 +136,12 @@ const KEYWORDS: [&[u8]; 34] = [
 ];
 
 /// The longest sign at the front.
+#[tactic(auto, unfolding(crate::specs::Signs::sign_at))]
 pub fn longest_sign(text: &[u8]) -> Option<Sign>
-    ensures value { result ≡ spec.first_of spec.signs text.now }
+    ensures value { result ≡ spec.sign_at text.now }
     ensures found { IfSome result (λ s. IsLongestSign text.now s) }
-    ensures none { IfNone result ((s : spec.Sign) → IsOneOf spec.signs s → Begins text.now s → ⊥) }
+    ensures none { IfNone result ((s : Sign) → IsOneOf spec.signs s → Begins text.now s → ⊥) }
+    ensures within { IfSome result (λ s. (1 ≤ length (spec.spelling s)) × (length (spec.spelling s) ≤ length text.now)) }
 {
     first_of(&SIGNS, text)
 }
@@ -155,8 +158,9 @@ fn first_of(signs: &[Sign], text: &[u8]) -> Option<Sign>
 }
 
 /// The word of the language that is spelled so.
+#[tactic(auto, unfolding(crate::specs::Signs::word_of))]
 pub fn word(text: &[u8]) -> Option<Sign>
-    ensures { result ≡ spec.spelled spec.words text.now }
+    ensures { result ≡ spec.word_of text.now }
 {
     spelled(&WORDS, text)
 }
@@ -172,8 +176,9 @@ fn spelled(signs: &[Sign], text: &[u8]) -> Option<Sign>
     None
 }
 
+#[tactic(auto, unfolding(crate::specs::Signs::is_keyword))]
 pub fn is_keyword(text: &[u8]) -> bool
-    ensures { result ≡ spec.is_among spec.keywords text.now }
+    ensures { result ≡ spec.is_keyword text.now }
 {
     is_among(&KEYWORDS, text)
 }

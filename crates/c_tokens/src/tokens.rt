@@ -37,7 +37,7 @@ fn next(mut margin: Margin, mut text: &[u8]) -> (Option<Token>, &[u8])
     ensures same { prepend result.0 (tokens_after result.1.now) ≡ tokens_from 0 margin text.entry.now }
     ensures end { result.0 ≡ None → result.1.now ≡ [] }
 {
-    while !text.is_empty() {
+    'pieces: while !text.is_empty() {
         let front = first_piece(margin, text);
         margin = front.margin;
         text = &text[front.len..];
@@ -48,13 +48,15 @@ fn next(mut margin: Margin, mut text: &[u8]) -> (Option<Token>, &[u8])
     (None, text)
 }
 
-pub fn is_same(a: Sign, b: Sign) -> bool
+#[tactic(auto, unfolding(crate::specs::Tokens::same_sign))]
+fn is_same(a: Sign, b: Sign) -> bool
     ensures { result ≡ spec.same_sign a b }
 {
     a == b
 }
 
 impl<'a> Tokens<'a> {
+    #[tactic(auto, unfolding(crate::specs::Pieces::tokens_of))]
     pub fn new(text: &'a [u8]) -> Tokens<'a>
         ensures { result ≡ tokens_of text.now }
     {
@@ -63,6 +65,7 @@ impl<'a> Tokens<'a> {
     }
 
     /// The next token.
+    #[tactic(auto, using(crate::proofs::Front::first_left))]
     pub fn peek(&self) -> Option<Token>
         ensures { result ≡ spec.first self.now }
     {
@@ -82,13 +85,14 @@ impl<'a> Tokens<'a> {
     pub fn sees(&self, sign: Sign) -> bool
         ensures { result ≡ spec.sees sign self.now }
     {
-        match self.token {
+        match self.peek() {
             Some(Token::Sign(found)) => is_same(found, sign),
             _ => false,
         }
     }
 
     /// Goes on behind this sign where it comes next, and stays in front of any other token.
+    #[tactic(auto, unfolding(crate::specs::Tokens::expect))]
     pub fn expect(&mut self, sign: Sign) -> Result<(), Unexpected>
         ensures { Gives (spec.expect sign self.old) result self.new }
     {
@@ -106,7 +110,7 @@ impl<'a> Tokens<'a> {
         let mut token = self.token;
         let mut rest = self.rest;
         let mut count = 0;
-        while token.is_some() {
+        'tokens: while token.is_some() {
             count += 1;
             (token, rest) = next(Margin::Past, rest);
         }
