@@ -23,22 +23,26 @@ fn reads(rt: &impl Abort, text: &[u8], wanted: &[Token]) {
 
 #[test]
 fn longest_first(rt: HostRuntime) {
-    let i = name(&rt, b"i");
     reads(
         &rt,
         b"i++ +i",
-        &[i, sign(Sign::Increment), sign(Sign::Plus), i],
+        &[
+            name(&rt, b"i"),
+            sign(Sign::Increment),
+            sign(Sign::Plus),
+            name(&rt, b"i"),
+        ],
     );
     reads(
         &rt,
         b"i=<i<=i",
         &[
-            i,
+            name(&rt, b"i"),
             sign(Sign::Assign),
             sign(Sign::Less),
-            i,
+            name(&rt, b"i"),
             sign(Sign::AtMost),
-            i,
+            name(&rt, b"i"),
         ],
     );
     reads(
@@ -82,22 +86,24 @@ fn runs(rt: HostRuntime) {
 
 #[test]
 fn gaps(rt: HostRuntime) {
-    let x = name(&rt, b"x");
     reads(&rt, b"", &[]);
-    reads(&rt, b" \t\r\n// x\nx /* * / \n x */", &[x]);
-    reads(&rt, b"x /* x", &[x, Token::Bad]);
-    reads(&rt, b"x /*/ x", &[x, Token::Bad]);
-    reads(&rt, b"x & x x", &[x, Token::Bad]);
-    reads(&rt, b"x / x x", &[x, Token::Bad]);
+    reads(&rt, b" \t\r\n// x\nx /* * / \n x */", &[name(&rt, b"x")]);
+    reads(&rt, b"x /* x", &[name(&rt, b"x"), Token::Bad]);
+    reads(&rt, b"x /*/ x", &[name(&rt, b"x"), Token::Bad]);
+    reads(&rt, b"x & x x", &[name(&rt, b"x"), Token::Bad]);
+    reads(&rt, b"x / x x", &[name(&rt, b"x"), Token::Bad]);
 }
 
 #[test]
 fn lines(rt: HostRuntime) {
-    let x = name(&rt, b"x");
-    reads(&rt, b"#include <x> /*\n \t#include x\nx", &[x]);
-    reads(&rt, b"x #include <x>", &[x, Token::Bad]);
+    reads(
+        &rt,
+        b"#include <x> /*\n \t#include x\nx",
+        &[name(&rt, b"x")],
+    );
+    reads(&rt, b"x #include <x>", &[name(&rt, b"x"), Token::Bad]);
     reads(&rt, b"/* */ #include <x>", &[Token::Bad]);
-    reads(&rt, b"/*\n#include x */\nx", &[x]);
+    reads(&rt, b"/*\n#include x */\nx", &[name(&rt, b"x")]);
     reads(
         &rt,
         b" #define DATA1(x) uint64_t *x = 0; int64_t x##_len = 0",
