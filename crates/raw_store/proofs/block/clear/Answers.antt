@@ -1,0 +1,1 @@
+use Rattle.raw_store.proofs.block.clear.Goals as goal
