@@ -2,7 +2,7 @@
 use Rattle.std.proofs.Common.{◌≡◌, ℕ, zero, suc, ◌+◌, ◌-◌, ◌<◌, ◌≤◌, ◌^◌, inl, inr, List, [], ◌∷◌, ◌++◌, length, take, set, get_or, replicate, refl, sym, ap, ◌∙◌, subst, arith, length-append, length-set, get_or-take, get_or-set_other, length-take}
 use Rattle.std.proofs.lemmas.List.{get_or_append_left, get_or-append_right, get_or_default, take-append-le}
 use Rattle.std.specs.List.{concat}
-use Rattle.raw_store.specs.Directory.{span, zero_blocks, IsSized, IsAt, cells, IsDirectory}
+use Rattle.raw_store.specs.Directory.{span, zero_blocks, IsAt, cells, IsDirectory}
 use Rattle.raw_store.proofs.Spans.{below_or_not, span-suc, span_up, span_later}
 use Rattle.raw_store.proofs.Blocks.{total, get_at, set_at, size_at, still_sized, joined_sized, length-zero_blocks, zeros_rest, concat-append, come_into_use}
 

@@ -1,7 +1,7 @@
 -- The lengths of blocks, which are powers of 2.
-use Rattle.std.proofs.Common.{◌≡◌, ℕ, zero, suc, ◌+◌, ◌-◌, ◌*◌, ◌<◌, ◌≤◌, ◌^◌, ◌⊎◌, inl, inr, refl, ap, ◌∙◌, subst, arith, lit<}
+use Rattle.std.proofs.Common.{◌≡◌, ℕ, zero, suc, ◌+◌, ◌-◌, ◌*◌, ◌<◌, ◌≤◌, ◌^◌, ◌⊎◌, inl, inr, ap, ◌∙◌, arith, lit<}
 use Rattle.std.proofs.Math.Nat.{two-pow-succ, pow-le-pow_right}
-use Rattle.raw_store.specs.Directory.{span, IsAt}
+use Rattle.raw_store.specs.Directory.{span}
 
 pub below_or_not : (a b : ℕ) → (a < b) ⊎ (b ≤ a)
 below_or_not zero zero = inr (omega arith)

@@ -91,6 +91,7 @@ impl Grid {
         ensures { self.new ≡ record self.old { cells = slice_set self.old.cells (place self.old at) value } }
     {
         let row = self.deep * self.wide;
-        self.cells.set(at[0] * row + (at[1] * self.wide + at[2]), value);
+        self.cells
+            .set(at[0] * row + (at[1] * self.wide + at[2]), value);
     }
 }

@@ -8,3 +8,6 @@ mod store;
 
 pub use grid::Grid;
 pub use store::Cells;
+
+#[cfg(test)]
+mod tests;

@@ -4,22 +4,22 @@ use lib.Dec.{T}
 use mir.Syntax.{Fn, ty_unit, ty_array}
 use mir.MapTy.{inst_fn}
 use mir.Val.{Val, vunit, vint, vptr, has_ty, WT}
-use base.Logic.{SProp, emp}
+use base.Logic.{SProp}
 use base.Fml.{Incl-trans, ftrue, froom, flft}
 use prog.Memory.{align, capped}
 use prog.Capped.{capped_fits}
 use prog.Wp.{Env, WpFn}
-use types.Kit.{‵, raw, ◌⊛◌, given, later, prop, at_ret, ◌$◌, ◌∵◌, !, qed, by, move, keep, drop, use0, use1, use2, use3, split, split3, join, learn, await, regoal, rewrite, fsplit, fsplit3, fjoin, feq_i, done}
+use types.Kit.{‵, raw, ◌⊛◌, given, later, prop, at_ret, ◌$◌, ◌∵◌, !, qed, by, move, keep, drop, use1, use2, use3, split, split3, join, learn, await, regoal, rewrite, fsplit, fsplit3, fjoin, feq_i}
 use types.Part.{whole, sub}
 use types.Run.{stop, fld, size_word, align_word, unit_lit, no_more, and_then, of_opd, bin, first, blocks, exec, returns, enter}
 use types.ByLocal.{alloc_all, pass_all, free_all, look_at, get, get_in, is, sets, lands_as, lands_last, env}
 use contract.BorrowLft.{◌⊑◌}
-use contract.Monad.{fact, fact_i}
+use contract.Monad.{fact}
 use contract.Running.{tables, tables_of}
 use denote.Exit.{yes, no}
 use denote.Builtin.{RefOf}
 use denote.RattleType.{owns}
-use denote.RawPtr.{Ptr, block_ptr}
+use denote.RawPtr.{Ptr}
 use denote.Signature.{plain, types_at}
 use denote.Steps.{nothing, heard}
 use denote.Triple.Call.{calls_at, calls_at_last}
@@ -34,9 +34,9 @@ use Rattle.core.proofs.slots.Opens.{row_val, row_had, row_made}
 use Rattle.core.proofs.slots.Leases.{uncapped, block_ty, block_size, block_align, args, P}
 use Rattle.core.proofs.slots.Slots.into_raw_parts.Met as callee
 use Rattle.std_alloc.proofs.RawLayout.{as_raw}
-use Rattle.std_alloc.proofs.VecSteps.El.{El, elτ, R, sz}
+use Rattle.std_alloc.proofs.VecSteps.El.{El, elτ, sz}
 use Rattle.std_alloc.proofs.vec.Blocks.{el, all}
-use Rattle.std_alloc.proofs.vec.Spares.{Row, Into, at_into, Into-goes, Into-gives, parts_typed}
+use Rattle.std_alloc.proofs.vec.Spares.{Row, Into, at_into, Into-goes, Into-gives}
 use Rattle.raw_store.proofs.Deeds.{deed_val, Dd, mark_told}
 use Rattle.raw_store.specs.contracts.memory.release as F
 use Rattle.raw_store.specs.contracts.memory.release.Key.{name as #self}

@@ -9,8 +9,8 @@ use base.Fml.{Incl-trans, ftrue, flft}
 use prog.Memory.{align, capped}
 use prog.Capped.{capped_fits}
 use prog.Wp.{Env, Wp, WpFn, after_seq, at_return}
-use types.Kit.{Post as After, any_q, Sq, ‵, raw, ◌⊛◌, some, given, later, prop, at_ret, ◌$◌, ◌∵◌, !, qed, by, move, keep, drop, use0, use1, use2, split, split3, join, pick, learn, await, regoal, fsplit, fjoin, done}
-use types.Part.{whole, sub, agg}
+use types.Kit.{Post as After, any_q, Sq, ‵, raw, ◌⊛◌, some, given, later, prop, at_ret, ◌$◌, ◌∵◌, !, qed, by, move, keep, drop, use0, use1, use2, split, split3, join, pick, learn, await, regoal, fsplit, fjoin}
+use types.Part.{whole, agg}
 use types.Match.{live, vrt, in_variant}
 use types.Run.{stop, fld, lit, size_word, align_word, no_more, and_then, of_opd, bin, first, blocks, switches_on, exec, returns, enter}
 use types.ByLocal.{alloc_all, pass_all, free_all, look_at, get, get_in, get_tag, is, sets, sets_last, lands_as, lands_last, env}
@@ -23,7 +23,6 @@ use denote.Builtin.{RefOf, usize}
 use denote.RattleType.{RattleType, owns}
 use denote.RawPtr.{block_ptr}
 use denote.Signature.{plain, types_at}
-use denote.Memory.{hidden_shr}
 use denote.Steps.{nothing, heard, owned}
 use denote.Struct.Struct.{Struct, Struct-Makes}
 use denote.Struct.Declared as Declared
@@ -33,7 +32,7 @@ use denote.Triple.Walked.{Stays, stay_dropped, walk_of, Goes-dropped}
 use Rattle.std.specs.Prelude.{IfOk, Ok, Err}
 use Rattle.std.specs.Vec.Ownership.{FitsInBlock}
 use Rattle.std.proofs.raw_atomic.Walks.{proved_at, leaves}
-use Rattle.core.specs.Mem.Slots.{slots_ptr, slots_len, slots_filled}
+use Rattle.core.specs.Mem.Slots.{slots_ptr, slots_len}
 use Rattle.core.specs.contracts.result.Result as RS
 use Rattle.core.specs.contracts.alloc.AllocError as AE
 use Rattle.core.proofs.atomic.Steps.{fm}

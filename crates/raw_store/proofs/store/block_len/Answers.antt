@@ -1,6 +1,5 @@
-use Rattle.std.proofs.Common.{◌≡◌, ◌+◌, ◌*◌, ◌%◌, ◌^◌, arith}
+use Rattle.std.proofs.Common.{◌+◌, arith}
 use Rattle.std.proofs.lemmas.Nat.{one_shl}
-use Rattle.raw_store.specs.Directory.{span}
 use Rattle.raw_store.proofs.Spans.{span_up}
 use Rattle.raw_store.proofs.store.block_len.Goals as goal
 

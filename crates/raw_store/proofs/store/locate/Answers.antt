@@ -1,4 +1,4 @@
-use Rattle.std.proofs.Common.{◌+◌, ◌-◌, arith}
+use Rattle.std.proofs.Common.{◌+◌, arith}
 use Rattle.raw_store.proofs.Spans.{top_least, top_most, span_top}
 use Rattle.raw_store.proofs.store.locate.Goals as goal
 

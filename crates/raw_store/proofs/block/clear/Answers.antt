@@ -1,1 +1,0 @@
-use Rattle.raw_store.proofs.block.clear.Goals as goal
