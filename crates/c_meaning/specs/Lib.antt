@@ -1,0 +1,5 @@
+pub mod Names
+pub mod Weighed
+pub mod Value
+pub mod Memory
+pub mod Inputs
