@@ -1,5 +1,10 @@
 pub mod Names
 pub mod Weighed
 pub mod Value
+pub mod Scope
 pub mod Memory
 pub mod Inputs
+pub mod Ground
+pub mod Listing
+pub mod Run
+pub mod Programs
