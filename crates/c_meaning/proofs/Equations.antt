@@ -1,13 +1,13 @@
 -- The definitions at each kind of index expression.
 use Rattle.std.proofs.Common.{ℕ, ◌≡◌, refl, ℤ, pos, int_le, nat_eq, Bool, true, ◌&&◌, List, [], ◌∷◌, ap, ◌∙◌, Ok}
-use Rattle.c_tree.specs.declared.index.Index.{Index, Index-F, Cell-F, Subscripts-F, fold-Index, fold_out-Index, map-Index, map-Subscripts, map-Cell, out-Index}
+use Rattle.c_tree.specs.declared.index.Index.{Index, Index-F, fold-Index, fold_out-Index, map-Index, out-Index}
 use Rattle.c_tree.specs.declared.index.Index.TheVariants.{Const, Var, At, Neg, Plus, Minus, Times, Min, Max, Floor, Ceil, outs-Const, outs-Var, outs-At, outs-Neg, outs-Plus, outs-Minus, outs-Times, outs-Min, outs-Max, outs-Floor, outs-Ceil}
-use Rattle.c_tree.specs.declared.index.Subscripts.{Subscripts, fold-Subscripts, fold_out-Subscripts, out-Subscripts}
+use Rattle.c_tree.specs.declared.index.Subscripts.{Subscripts, Subscripts-F, map-Subscripts, fold-Subscripts, fold_out-Subscripts, out-Subscripts}
 use Rattle.c_tree.specs.declared.index.Subscripts.TheVariants.{One, Two, Three, outs-One, outs-Two, outs-Three}
 use Rattle.c_tree.specs.declared.index.Cell.{Cell, fold-Cell, fold_out-Cell, out-Cell}
 use Rattle.c_meaning.specs.Names.{Name}
 use Rattle.c_meaning.specs.Weighed.{Weighed, plain, negated, sum_of, difference_of, multiple_of, lesser_of, greater_of, floor_of, ceil_of}
-use Rattle.c_meaning.specs.Value.{Sight, Answer, ◌>>=◌, Meaning, SubscriptsMeaning, CellMeaning, measure, subscripts_of, cell_value, value_of, index_layer, subscripts_layer, cell_layer, on_one, on_two, held}
+use Rattle.c_meaning.specs.Value.{Sight, Answer, ◌>>=◌, Meaning, SubscriptsMeaning, CellMeaning, measure, subscripts_of, cell_value, value_of, index_layer, subscripts_layer, cell_layer, on_one, on_two, plain_answer, held, cell_seen}
 use Rattle.c_meaning.specs.Scope.{Scope, Fit, SubscriptsFit, fits, subscripts_fit, cell_fits, fit_layer, subscripts_fit_layer, cell_fit_layer}
 
 pub measure_at : (e : Index) (d : Index-F Index Subscripts Cell) → out-Index e ≡ d → (s : Sight) → measure e s ≡ index_layer (map-Index Index Subscripts Cell Meaning SubscriptsMeaning CellMeaning measure subscripts_of cell_value d) s
@@ -22,7 +22,7 @@ subscripts_at e d h s =
     ap (λ f. f s) (fold_out-Subscripts Meaning SubscriptsMeaning CellMeaning index_layer subscripts_layer cell_layer e)
         ∙ ap (λ d. subscripts_layer (map-Subscripts Index Subscripts Cell Meaning SubscriptsMeaning CellMeaning measure subscripts_of cell_value d) s) h
 
-pub cell_value_is : (c : Cell) (s : Sight) → cell_value c s ≡ (subscripts_of c.at s >>= (λ at. held c.array (s.cell c.array at)))
+pub cell_value_is : (c : Cell) (s : Sight) → cell_value c s ≡ (subscripts_of c.at s >>= (λ at. held c.array (cell_seen s c.array at)))
 unfolding measure subscripts_of cell_value
 cell_value_is c s = ap (λ f. f s) (fold_out-Cell Meaning SubscriptsMeaning CellMeaning index_layer subscripts_layer cell_layer c)
 
@@ -48,7 +48,7 @@ measure-Const n s = measure_at (Const n) _ (outs-Const n) s
 pub measure-Var : (x : Name) (s : Sight) → measure (Var x) s ≡ Ok (plain (s.value x))
 measure-Var x s = measure_at (Var x) _ (outs-Var x) s
 
-pub measure-At : (e : Cell) (s : Sight) → measure (At e) s ≡ (cell_value e s >>= (λ n. Ok (plain n)))
+pub measure-At : (e : Cell) (s : Sight) → measure (At e) s ≡ plain_answer (cell_value e s)
 measure-At e s = measure_at (At e) _ (outs-At e) s
 
 pub measure-Neg : (a : Index) (s : Sight) → measure (Neg a) s ≡ on_one negated (measure a s)

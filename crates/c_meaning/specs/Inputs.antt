@@ -17,7 +17,7 @@ pub record Input : Type 0 where
 
 -- what the extents of a signature see: its parameters alone
 abbrev pub sight_of_parameters : Input → Sight
-sight_of_parameters i = record { value = i.value; cell = λ a at. None }
+sight_of_parameters i = record { value = i.value; extents = λ a. []; index = λ a at. pos 0 }
 
 -- the array of that name
 abbrev pub array_named : Name → List Array → Option Array

@@ -1,6 +1,7 @@
 pub mod Names
 pub mod Weighed
 pub mod Value
+pub mod Capped
 pub mod Scope
 pub mod Memory
 pub mod Inputs

@@ -26,7 +26,7 @@ scene_of c m = record { sight = sight_of c m; inside = λ x. is_in_array x m }
 
 -- the scene in a turn of a loop
 abbrev pub bind : Name → ℤ → Scene → Scene
-bind x v c = record { sight = record { value = bound x v c.sight.value; cell = c.sight.cell }; inside = c.inside }
+bind x v c = record { sight = record c.sight { value = bound x v c.sight.value }; inside = c.inside }
 
 -- the cell that a data cell names: all subscripts come before the test that it is inside
 abbrev pub spot : Cell → Scene → Answer Spot

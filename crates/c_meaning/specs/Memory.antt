@@ -1,7 +1,7 @@
 -- What a run holds: the extents and the cells of its arrays.
-use Rattle.std.specs.Prelude.{ℕ, ℤ, pos, ◌+ℤ◌, Bool, true, false, ◌&&◌, List, [], ◌∷◌, Option, Some, None, if◌then◌else◌, int_le, int_lt}
+use Rattle.std.specs.Prelude.{ℕ, ℤ, Bool, ◌&&◌, List, if◌then◌else◌}
 use Rattle.c_meaning.specs.Names.{Name, same_name, same_numbers}
-use Rattle.c_meaning.specs.Value.{Sight}
+use Rattle.c_meaning.specs.Value.{Sight, is_inside}
 
 -- a cell of an array, by its three subscripts
 pub record Spot : Type 0 where
@@ -26,18 +26,12 @@ pub record Memory : Type 0 where
 abbrev pub Env : Type 0
 Env = Name → ℤ
 
--- each subscript is in 0 to extent-1
-abbrev pub is_inside : List ℤ → List ℤ → Bool
-is_inside [] [] = true
-is_inside (i ∷ is) (e ∷ es) = (int_le (pos 0) i && int_lt i e) && is_inside is es
-is_inside _ _ = false
-
 abbrev pub is_in_array : Spot → Memory → Bool
 is_in_array x m = is_inside x.at (m.extents x.array)
 
 -- what an index expression sees of a memory
 abbrev pub sight_of : Env → Memory → Sight
-sight_of c m = record { value = c; cell = λ a at. if is_inside at (m.extents a) then Some (m.index a at) else None }
+sight_of c m = record { value = c; extents = m.extents; index = m.index }
 
 -- a loop variable has a value in the loop
 abbrev pub bound : Name → ℤ → Env → Env

@@ -9,8 +9,8 @@ use Rattle.c_tree.specs.declared.statement.Stmt.{Stmt, fold-Stmt}
 use Rattle.c_tree.specs.declared.statement.Stmt.TheOpen.{Stmt-F, For, If, Assign, Put, Declare, Grow}
 use Rattle.c_meaning.specs.declared.fault.EvalFault.TheVariants.{Outside, Range}
 use Rattle.c_meaning.specs.Names.{Name, same_name, same_numbers, Place, child}
-use Rattle.c_meaning.specs.Value.{Answer, ◌>>=◌, subscripts_of, value_of, values_of, all_hold}
-use Rattle.c_meaning.specs.Memory.{Spot, Memory, Env, is_inside, sight_of, bound}
+use Rattle.c_meaning.specs.Value.{Answer, ◌>>=◌, is_inside, subscripts_of, value_of, values_of, all_hold}
+use Rattle.c_meaning.specs.Memory.{Spot, Memory, Env, sight_of, bound}
 use Rattle.c_meaning.specs.Inputs.{three}
 use Rattle.c_meaning.specs.Ground.{Step, perform}
 use Rattle.c_meaning.specs.Listing.{Item, Trouble, above_zero, assigned, scene_of}

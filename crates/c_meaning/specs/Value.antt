@@ -1,5 +1,5 @@
 -- The value of an index expression, or the first fault that is met.
-use Rattle.std.specs.Prelude.{ℕ, ℤ, pos, Bool, true, false, List, [], ◌∷◌, Option, Some, None, Result, Ok, Err, if◌then◌else◌, nat_le, int_lt, int_le}
+use Rattle.std.specs.Prelude.{ℕ, ℤ, pos, Bool, true, false, ◌&&◌, List, [], ◌∷◌, Option, Some, None, Result, Ok, Err, if◌then◌else◌, nat_le, int_lt, int_le}
 use Rattle.std.specs.Ordering.{int_eq}
 use Rattle.c_tree.specs.declared.index.Index.{Index, fold-Index}
 use Rattle.c_tree.specs.declared.index.Cell.{Cell, fold-Cell}
@@ -13,10 +13,22 @@ use Rattle.c_meaning.specs.declared.fault.EvalFault.TheVariants.{Outside, Range}
 use Rattle.c_meaning.specs.Names.{Name}
 use Rattle.c_meaning.specs.Weighed.{Weighed, greatest, plain, negated, sum_of, difference_of, multiple_of, lesser_of, greater_of, floor_of, ceil_of}
 
--- what an expression sees: the values of names, and the cells of index arrays, with none outside an array
+-- What an expression sees: the values of names, and the extents and cells of index arrays. Extents are three, of which
+-- missing ones are 1; where there is no array there are none.
 pub record Sight : Type 0 where
   pub value : Name → ℤ
-  pub cell : Name → List ℤ → Option ℤ
+  pub extents : Name → List ℤ
+  pub index : Name → List ℤ → ℤ
+
+-- each subscript is in 0 to extent-1
+abbrev pub is_inside : List ℤ → List ℤ → Bool
+is_inside [] [] = true
+is_inside (i ∷ is) (e ∷ es) = (int_le (pos 0) i && int_lt i e) && is_inside is es
+is_inside _ _ = false
+
+-- the cell of an index array, where the subscripts are inside
+abbrev pub cell_seen : Sight → Name → List ℤ → Option ℤ
+cell_seen s a at = if is_inside at (s.extents a) then Some (s.index a at) else None
 
 abbrev pub Answer : Type 0 → Type 0
 Answer A = Result A EvalFault
@@ -31,6 +43,12 @@ Err e >>= f = Err e
 abbrev pub judged : Weighed → Answer ℤ
 judged w = if nat_le w.weight greatest then Ok w.value else Err Range
 
+abbrev pub judged_answer : Answer Weighed → Answer ℤ
+judged_answer a = a >>= judged
+
+abbrev pub plain_answer : Answer ℤ → Answer Weighed
+plain_answer a = a >>= (λ n. Ok (plain n))
+
 -- what stands for an expression, for the subscripts of a cell and for a cell: what they give under a sight
 abbrev pub Meaning : Type 0
 Meaning = Sight → Answer Weighed
@@ -43,7 +61,7 @@ CellMeaning = Sight → Answer ℤ
 
 -- each subscript is judged as soon as it has been evaluated
 abbrev pub subscript : Meaning → Sight → Answer ℤ
-subscript m s = m s >>= judged
+subscript m s = judged_answer (m s)
 
 -- all subscripts, from the left; missing ones are 0
 abbrev pub subscripts_layer : Subscripts-F Meaning SubscriptsMeaning CellMeaning → SubscriptsMeaning
@@ -66,7 +84,7 @@ held array (Some n) = Ok n
 
 -- all subscripts come before the cell
 abbrev pub cell_layer : Cell-F Meaning SubscriptsMeaning CellMeaning → CellMeaning
-cell_layer c s = c.at s >>= (λ at. held c.array (s.cell c.array at))
+cell_layer c s = c.at s >>= (λ at. held c.array (cell_seen s c.array at))
 
 abbrev pub on_one : (Weighed → Weighed) → Answer Weighed → Answer Weighed
 on_one f a = a >>= (λ x. Ok (f x))
@@ -78,7 +96,7 @@ on_two f a b = a >>= (λ x. b >>= (λ y. Ok (f x y)))
 abbrev pub index_layer : Index-F Meaning SubscriptsMeaning CellMeaning → Meaning
 index_layer (Const n) s = Ok (plain n)
 index_layer (Var x) s = Ok (plain (s.value x))
-index_layer (At c) s = c s >>= (λ n. Ok (plain n))
+index_layer (At c) s = plain_answer (c s)
 index_layer (Neg a) s = on_one negated (a s)
 index_layer (Plus a b) s = on_two sum_of (a s) (b s)
 index_layer (Minus a b) s = on_two difference_of (a s) (b s)
@@ -102,7 +120,7 @@ cell_value = fold-Cell Meaning SubscriptsMeaning CellMeaning index_layer subscri
 
 -- the value of a whole index expression: the weight of the whole is judged last
 abbrev pub value_of : Index → Sight → Answer ℤ
-value_of e s = measure e s >>= judged
+value_of e s = judged_answer (measure e s)
 
 -- the values of expressions, from the left
 abbrev pub values_of : List Index → Sight → Answer (List ℤ)
