@@ -7,20 +7,20 @@ use Rattle.c_tree.specs.declared.index.Subscripts.TheVariants.{One, Two, Three, 
 use Rattle.c_tree.specs.declared.index.Cell.{Cell, fold-Cell, fold_out-Cell, out-Cell}
 use Rattle.c_meaning.specs.Names.{Name}
 use Rattle.c_meaning.specs.Weighed.{Weighed, plain, negated, sum_of, difference_of, multiple_of, lesser_of, greater_of, floor_of, ceil_of}
-use Rattle.c_meaning.specs.Value.{Sight, Answer, ◌>>=◌, Meaning, SubscriptsMeaning, CellMeaning, measure, subscripts_of, cell_value, value_of, index_layer, subscripts_layer, cell_layer, on_one, on_two, plain_answer, held, cell_seen}
+use Rattle.c_meaning.specs.Value.{Sight, Answer, ◌>>=◌, Meaning, SubscriptsMeaning, CellMeaning, measure, subscripts_of, three_answers, cell_value, value_of, index_layer, subscripts_layer, cell_layer, on_one, on_two, plain_answer, held, cell_seen}
 use Rattle.c_meaning.specs.Scope.{Scope, Fit, SubscriptsFit, fits, subscripts_fit, cell_fits, fit_layer, subscripts_fit_layer, cell_fit_layer}
 
 pub measure_at : (e : Index) (d : Index-F Index Subscripts Cell) → out-Index e ≡ d → (s : Sight) → measure e s ≡ index_layer (map-Index Index Subscripts Cell Meaning SubscriptsMeaning CellMeaning measure subscripts_of cell_value d) s
 unfolding measure subscripts_of cell_value
 measure_at e d h s =
     ap (λ f. f s) (fold_out-Index Meaning SubscriptsMeaning CellMeaning index_layer subscripts_layer cell_layer e)
-        ∙ ap (λ d. index_layer (map-Index Index Subscripts Cell Meaning SubscriptsMeaning CellMeaning measure subscripts_of cell_value d) s) h
+    ∙ ap (λ d. index_layer (map-Index Index Subscripts Cell Meaning SubscriptsMeaning CellMeaning measure subscripts_of cell_value d) s) h
 
 pub subscripts_at : (e : Subscripts) (d : Subscripts-F Index Subscripts Cell) → out-Subscripts e ≡ d → (s : Sight) → subscripts_of e s ≡ subscripts_layer (map-Subscripts Index Subscripts Cell Meaning SubscriptsMeaning CellMeaning measure subscripts_of cell_value d) s
 unfolding measure subscripts_of cell_value
 subscripts_at e d h s =
     ap (λ f. f s) (fold_out-Subscripts Meaning SubscriptsMeaning CellMeaning index_layer subscripts_layer cell_layer e)
-        ∙ ap (λ d. subscripts_layer (map-Subscripts Index Subscripts Cell Meaning SubscriptsMeaning CellMeaning measure subscripts_of cell_value d) s) h
+    ∙ ap (λ d. subscripts_layer (map-Subscripts Index Subscripts Cell Meaning SubscriptsMeaning CellMeaning measure subscripts_of cell_value d) s) h
 
 pub cell_value_is : (c : Cell) (s : Sight) → cell_value c s ≡ (subscripts_of c.at s >>= (λ at. held c.array (cell_seen s c.array at)))
 unfolding measure subscripts_of cell_value
@@ -30,13 +30,13 @@ pub fits_at : (e : Index) (d : Index-F Index Subscripts Cell) → out-Index e �
 unfolding fits subscripts_fit cell_fits
 fits_at e d h c =
     ap (λ f. f c) (fold_out-Index Fit SubscriptsFit Fit fit_layer subscripts_fit_layer cell_fit_layer e)
-        ∙ ap (λ d. fit_layer (map-Index Index Subscripts Cell Fit SubscriptsFit Fit fits subscripts_fit cell_fits d) c) h
+    ∙ ap (λ d. fit_layer (map-Index Index Subscripts Cell Fit SubscriptsFit Fit fits subscripts_fit cell_fits d) c) h
 
 pub subscripts_fit_at : (e : Subscripts) (d : Subscripts-F Index Subscripts Cell) → out-Subscripts e ≡ d → (c : Scope) (n : ℕ) → subscripts_fit e c n ≡ subscripts_fit_layer (map-Subscripts Index Subscripts Cell Fit SubscriptsFit Fit fits subscripts_fit cell_fits d) c n
 unfolding fits subscripts_fit cell_fits
 subscripts_fit_at e d h c n =
     ap (λ f. f c n) (fold_out-Subscripts Fit SubscriptsFit Fit fit_layer subscripts_fit_layer cell_fit_layer e)
-        ∙ ap (λ d. subscripts_fit_layer (map-Subscripts Index Subscripts Cell Fit SubscriptsFit Fit fits subscripts_fit cell_fits d) c n) h
+    ∙ ap (λ d. subscripts_fit_layer (map-Subscripts Index Subscripts Cell Fit SubscriptsFit Fit fits subscripts_fit cell_fits d) c n) h
 
 pub cell_fits_is : (e : Cell) (c : Scope) → cell_fits e c ≡ subscripts_fit e.at c (c.index_arrays e.array)
 unfolding fits subscripts_fit cell_fits
@@ -108,13 +108,13 @@ fits-Floor a d c = fits_at (Floor a d) _ (outs-Floor a d) c
 pub fits-Ceil : (a : Index) (d : ℤ) (c : Scope) → fits (Ceil a d) c ≡ (int_le (pos 1) d && fits a c)
 fits-Ceil a d c = fits_at (Ceil a d) _ (outs-Ceil a d) c
 
-pub subscripts-One : (a : Index) (s : Sight) → subscripts_of (One a) s ≡ (value_of a s >>= (λ i. Ok (i ∷ pos 0 ∷ pos 0 ∷ [])))
+pub subscripts-One : (a : Index) (s : Sight) → subscripts_of (One a) s ≡ three_answers (value_of a s) (Ok (pos 0)) (Ok (pos 0))
 subscripts-One a s = subscripts_at (One a) _ (outs-One a) s
 
-pub subscripts-Two : (a b : Index) (s : Sight) → subscripts_of (Two a b) s ≡ (value_of a s >>= (λ i. value_of b s >>= (λ j. Ok (i ∷ j ∷ pos 0 ∷ []))))
+pub subscripts-Two : (a b : Index) (s : Sight) → subscripts_of (Two a b) s ≡ three_answers (value_of a s) (value_of b s) (Ok (pos 0))
 subscripts-Two a b s = subscripts_at (Two a b) _ (outs-Two a b) s
 
-pub subscripts-Three : (a b c : Index) (s : Sight) → subscripts_of (Three a b c) s ≡ (value_of a s >>= (λ i. value_of b s >>= (λ j. value_of c s >>= (λ k. Ok (i ∷ j ∷ k ∷ [])))))
+pub subscripts-Three : (a b c : Index) (s : Sight) → subscripts_of (Three a b c) s ≡ three_answers (value_of a s) (value_of b s) (value_of c s)
 subscripts-Three a b c s = subscripts_at (Three a b c) _ (outs-Three a b c) s
 
 pub subscripts_fit-One : (a : Index) (c : Scope) (n : ℕ) → subscripts_fit (One a) c n ≡ (nat_eq n 1 && fits a c)

@@ -59,24 +59,24 @@ begins e right s h = record { parts = Ok (plain (pos 0)); right_is = h; whole_is
 -- one more right part, which is added
 pub adds : (e rest left part : Index) (right next given : Answer (Option Weighed)) (s : Sight) → Gathers e rest right s → rest ≡ Plus left part → given ≡ cap (measure part s)
     → ((m n : Answer Weighed) → given ≡ cap m → right ≡ cap n → next ≡ cap (on_two sum_of m n)) → Gathers e left next s
-adds e rest left part right next given s g is h k = record
-  { parts = on_two sum_of (measure part s) g.parts
-  ; right_is = k (measure part s) g.parts h g.right_is
-  ; whole_is = g.whole_is ∙ ap (λ t. on_two sum_of (measure t s) g.parts) is ∙ ap (λ m. on_two sum_of m g.parts) (measure-Plus left part s) ∙ regrouped (measure left s) (measure part s) g.parts
-  }
+adds e rest left part right next given s g is h k = record {
+  parts = on_two sum_of (measure part s) g.parts;
+  right_is = k (measure part s) g.parts h g.right_is;
+  whole_is = g.whole_is ∙ ap (λ t. on_two sum_of (measure t s) g.parts) is ∙ ap (λ m. on_two sum_of m g.parts) (measure-Plus left part s) ∙ regrouped (measure left s) (measure part s) g.parts;
+}
 
 -- one more right part, which is taken away
 pub takes : (e rest left part : Index) (right next given turned : Answer (Option Weighed)) (s : Sight) → Gathers e rest right s → rest ≡ Minus left part → given ≡ cap (measure part s)
     → ((m : Answer Weighed) → given ≡ cap m → turned ≡ cap (on_one negated m))
     → ((m n : Answer Weighed) → turned ≡ cap m → right ≡ cap n → next ≡ cap (on_two sum_of m n)) → Gathers e left next s
-takes e rest left part right next given turned s g is h t k = record
-  { parts = on_two sum_of (on_one negated (measure part s)) g.parts
-  ; right_is = k (on_one negated (measure part s)) g.parts (t (measure part s) h) g.right_is
-  ; whole_is =
+takes e rest left part right next given turned s g is h t k = record {
+  parts = on_two sum_of (on_one negated (measure part s)) g.parts;
+  right_is = k (on_one negated (measure part s)) g.parts (t (measure part s) h) g.right_is;
+  whole_is =
       g.whole_is ∙ ap (λ t. on_two sum_of (measure t s) g.parts) is
       ∙ ap (λ m. on_two sum_of m g.parts) (measure-Minus left part s ∙ minus_is (measure left s) (measure part s))
-      ∙ regrouped (measure left s) (on_one negated (measure part s)) g.parts
-  }
+      ∙ regrouped (measure left s) (on_one negated (measure part s)) g.parts;
+}
 
 -- the leftmost part is reached
 pub ends : (e rest : Index) (right given result : Answer (Option Weighed)) (s : Sight) (m : Answer Weighed) → Gathers e rest right s → measure rest s ≡ m → given ≡ cap m

@@ -119,19 +119,19 @@ above_zero (negsuc n) = 0
 abbrev pub loop_listing : Name → Index → Index → List Part → Scene → Place → Listing
 loop_listing x low high body c at =
     given at (value_of low c.sight) (λ l. given at (value_of high c.sight) (λ h.
-      turns (above_zero (h -ℤ l)) l (λ v. sequence body (bind x v c) (at ++ v ∷ []) 0)))
+    turns (above_zero (h -ℤ l)) l (λ v. sequence body (bind x v c) (at ++ v ∷ []) 0)))
 
 -- a guard takes no child position: its statements take positions in the list around it
 abbrev pub stmt_layer : Stmt-F Part → Part
 stmt_layer (For x low high body) = record { width = 1; listing = λ c at n. loop_listing x low high body c (child at n) }
-stmt_layer (If tests body) = record
-  { width = widths body
-  ; listing = λ c at n. given (child at n) (all_hold tests c.sight) (λ b. if b then sequence body c at n else nothing)
-  }
-stmt_layer (Assign target how value) = record
-  { width = 1
-  ; listing = λ c at n. given (child at n) (assigned target how value c) (performs (child at n))
-  }
+stmt_layer (If tests body) = record {
+  width = widths body;
+  listing = λ c at n. given (child at n) (all_hold tests c.sight) (λ b. if b then sequence body c at n else nothing);
+}
+stmt_layer (Assign target how value) = record {
+  width = 1;
+  listing = λ c at n. given (child at n) (assigned target how value c) (performs (child at n));
+}
 -- these three don't stand in an executor
 stmt_layer (Put target value) = record { width = 1; listing = λ c at n. nothing }
 stmt_layer (Declare name kind inner) = record { width = 1; listing = λ c at n. nothing }

@@ -30,11 +30,11 @@ with_extents a es m = record m { extents = λ b. if same_name a b then es else m
 
 -- a new array has no cells yet
 abbrev pub declared : Name → List ℤ → Memory → Memory
-declared a es m = record
-  { extents = λ b. if same_name a b then es else m.extents b
-  ; index = λ b is. if same_name a b then pos 0 else m.index b is
-  ; cells = λ x. if same_name a x.array then 0 else m.cells x
-  }
+declared a es m = record {
+  extents = λ b. if same_name a b then es else m.extents b;
+  index = λ b is. if same_name a b then pos 0 else m.index b is;
+  cells = λ x. if same_name a x.array then 0 else m.cells x;
+}
 
 abbrev pub grown : ℤ → List ℤ → List ℤ
 grown n [] = []
@@ -135,18 +135,18 @@ declare_step a kind inner c m = values_of inner (sight_of c m) >>= (λ es. if li
 abbrev pub for_run : Name → Index → Index → List Part → Env → Place → Run
 for_run x low high body c at =
     given at (λ m. value_of low (sight_of c m)) (λ l. given at (λ m. value_of high (sight_of c m)) (λ h.
-      turns (above_zero (h -ℤ l)) l (λ v. sequence body (bound x v c) (at ++ v ∷ []) 0)))
+    turns (above_zero (h -ℤ l)) l (λ v. sequence body (bound x v c) (at ++ v ∷ []) 0)))
 
 abbrev pub stmt_layer : Stmt-F Part → Part
 stmt_layer (For x low high body) = record { width = 1; run = λ c at n. for_run x low high body c (child at n) }
-stmt_layer (If tests body) = record
-  { width = widths body
-  ; run = λ c at n. given (child at n) (λ m. all_hold tests (sight_of c m)) (λ b. if b then sequence body c at n else nothing)
-  }
-stmt_layer (Assign target how value) = record
-  { width = 1
-  ; run = λ c at n. given (child at n) (λ m. assigned target how value (scene_of c m)) (λ t. performs (child at n) (assign t))
-  }
+stmt_layer (If tests body) = record {
+  width = widths body;
+  run = λ c at n. given (child at n) (λ m. all_hold tests (sight_of c m)) (λ b. if b then sequence body c at n else nothing);
+}
+stmt_layer (Assign target how value) = record {
+  width = 1;
+  run = λ c at n. given (child at n) (λ m. assigned target how value (scene_of c m)) (λ t. performs (child at n) (assign t));
+}
 stmt_layer (Put target value) = record { width = 1; run = λ c at n. given (child at n) (put_step target value c) (performs (child at n)) }
 stmt_layer (Declare name kind inner) = record { width = 1; run = λ c at n. given (child at n) (declare_step name kind inner c) (performs (child at n)) }
 stmt_layer (Grow name by) = record { width = 1; run = λ c at n. given (child at n) (grow_step name by c) (performs (child at n)) }

@@ -63,20 +63,19 @@ CellMeaning = Sight → Answer ℤ
 abbrev pub subscript : Meaning → Sight → Answer ℤ
 subscript m s = judged_answer (m s)
 
--- all subscripts, from the left; missing ones are 0
-abbrev pub subscripts_layer : Subscripts-F Meaning SubscriptsMeaning CellMeaning → SubscriptsMeaning
-subscripts_layer (One a) s = do
-  i ← subscript a s
-  Ok (i ∷ pos 0 ∷ pos 0 ∷ [])
-subscripts_layer (Two a b) s = do
-  i ← subscript a s
-  j ← subscript b s
-  Ok (i ∷ j ∷ pos 0 ∷ [])
-subscripts_layer (Three a b c) s = do
-  i ← subscript a s
-  j ← subscript b s
-  k ← subscript c s
+-- from the left: the first fault counts
+abbrev pub three_answers : Answer ℤ → Answer ℤ → Answer ℤ → Answer (List ℤ)
+three_answers a b c = do
+  i ← a
+  j ← b
+  k ← c
   Ok (i ∷ j ∷ k ∷ [])
+
+-- all subscripts; missing ones are 0
+abbrev pub subscripts_layer : Subscripts-F Meaning SubscriptsMeaning CellMeaning → SubscriptsMeaning
+subscripts_layer (One a) s = three_answers (subscript a s) (Ok (pos 0)) (Ok (pos 0))
+subscripts_layer (Two a b) s = three_answers (subscript a s) (subscript b s) (Ok (pos 0))
+subscripts_layer (Three a b c) s = three_answers (subscript a s) (subscript b s) (subscript c s)
 
 abbrev pub held : Name → Option ℤ → Answer ℤ
 held array None = Err (Outside array)

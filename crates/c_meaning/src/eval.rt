@@ -1,6 +1,6 @@
 // The value of an index expression, and whether a test holds.
 ghost use Rattle.std.specs.Prelude.{◌≡◌, ℕ, IsTrue};
-ghost use Rattle.c_meaning.specs.Value.{measure, subscripts_of, cell_value, plain_answer, value_of, holds, compares};
+ghost use Rattle.c_meaning.specs.Value.{measure, subscripts_of, three_answers, cell_value, plain_answer, value_of, holds, compares};
 ghost use Rattle.c_meaning.specs.Capped.{cap};
 ghost use Rattle.c_meaning.specs.Scope.{fits, subscripts_fit, cell_fits, test_fits};
 
@@ -40,11 +40,26 @@ fn weigh<V: View>(e: &Index, view: &V) -> Measured
             Index::Var(name) => return sized::sum(Ok(sized::plain(view.value(name))), right),
             Index::At(cell) => return sized::sum(weigh_cell(cell, view), right),
             Index::Neg(part) => return sized::sum(sized::negated(weigh(part.get(), view)), right),
-            Index::Times(factor, part) => return sized::sum(sized::multiple(*factor, weigh(part.get(), view)), right),
-            Index::Min(a, b) => return sized::sum(sized::lesser(weigh(a.get(), view), weigh(b.get(), view)), right),
-            Index::Max(a, b) => return sized::sum(sized::greater(weigh(a.get(), view), weigh(b.get(), view)), right),
-            Index::Floor(part, divisor) => return sized::sum(sized::floor(weigh(part.get(), view), *divisor), right),
-            Index::Ceil(part, divisor) => return sized::sum(sized::ceil(weigh(part.get(), view), *divisor), right),
+            Index::Times(factor, part) => return sized::sum(
+                sized::multiple(*factor, weigh(part.get(), view)),
+                right,
+            ),
+            Index::Min(a, b) => return sized::sum(
+                sized::lesser(weigh(a.get(), view), weigh(b.get(), view)),
+                right,
+            ),
+            Index::Max(a, b) => return sized::sum(
+                sized::greater(weigh(a.get(), view), weigh(b.get(), view)),
+                right,
+            ),
+            Index::Floor(part, divisor) => return sized::sum(
+                sized::floor(weigh(part.get(), view), *divisor),
+                right,
+            ),
+            Index::Ceil(part, divisor) => return sized::sum(
+                sized::ceil(weigh(part.get(), view), *divisor),
+                right,
+            ),
         }
     }
 }
@@ -55,10 +70,12 @@ fn weigh_cell<V: View>(cell: &Cell, view: &V) -> Measured
     requires { IsTrue (cell_fits cell.now (V.scope view.now)) }
     ensures { result ≡ cap (plain_answer (cell_value cell.now (V.sight view.now))) }
 {
-    let at = eval_subscripts(&cell.at, view)?;
-    match view.cell(&cell.array, at) {
-        Some(n) => Ok(sized::plain(n)),
-        None => Err(EvalFault::Outside { array: cell.array }),
+    match eval_subscripts(&cell.at, view) {
+        Ok(at) => match view.cell(&cell.array, at) {
+            Some(n) => Ok(sized::plain(n)),
+            None => Err(EvalFault::Outside { array: cell.array }),
+        },
+        Err(fault) => Err(fault),
     }
 }
 
@@ -69,22 +86,32 @@ pub fn eval_subscripts<V: View>(at: &Subscripts, view: &V) -> Result<[i64; 3], E
     ensures { result ≡ subscripts_of at.now (V.sight view.now) }
 {
     match at {
-        Subscripts::One(a) => {
-            let i = eval_index(a.get(), view)?;
-            Ok([i, 0, 0])
-        }
-        Subscripts::Two(a, b) => {
-            let i = eval_index(a.get(), view)?;
-            let j = eval_index(b.get(), view)?;
-            Ok([i, j, 0])
-        }
-        Subscripts::Three(a, b, c) => {
-            let i = eval_index(a.get(), view)?;
-            let j = eval_index(b.get(), view)?;
-            let k = eval_index(c.get(), view)?;
-            Ok([i, j, k])
-        }
+        Subscripts::One(a) => all_three(eval_index(a.get(), view), Ok(0), Ok(0)),
+        Subscripts::Two(a, b) => all_three(
+            eval_index(a.get(), view),
+            eval_index(b.get(), view),
+            Ok(0),
+        ),
+        Subscripts::Three(a, b, c) => all_three(
+            eval_index(a.get(), view),
+            eval_index(b.get(), view),
+            eval_index(c.get(), view),
+        ),
     }
+}
+
+// The first fault counts.
+fn all_three(
+    i: Result<i64, EvalFault>,
+    j: Result<i64, EvalFault>,
+    k: Result<i64, EvalFault>,
+) -> Result<[i64; 3], EvalFault>
+    ensures { result ≡ three_answers i j k }
+{
+    let i = i?;
+    let j = j?;
+    let k = k?;
+    Ok([i, j, k])
 }
 
 /// Whether a test holds. It takes no memory.
