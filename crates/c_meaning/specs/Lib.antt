@@ -7,5 +7,6 @@ pub mod Memory
 pub mod Inputs
 pub mod Ground
 pub mod Listing
+pub mod Order
 pub mod Run
 pub mod Programs

@@ -3,6 +3,7 @@
 
 mod eval;
 mod fault;
+pub mod laws;
 mod sized;
 mod view;
 
