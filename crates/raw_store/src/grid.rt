@@ -1,5 +1,5 @@
 // Cells by rows: a row is a plane of lines of cells.
-ghost use Rattle.std.specs.Prelude.{◌≡◌, ℕ, ◌+◌, ◌*◌, ◌^◌, ◌≤◌, [], ◌++◌, length, replicate, slice_index_or, slice_set, OnOk, OnErr};
+ghost use Rattle.std.specs.Prelude.{◌≡◌, ℕ, ◌+◌, ◌*◌, ◌^◌, ◌≤◌, [], ◌∷◌, ◌++◌, length, replicate, slice_index_or, slice_set, OnOk, OnErr};
 ghost use Rattle.raw_store.specs.Rows.{IsInside, place, sub};
 
 use crate::store::Cells;
@@ -60,6 +60,20 @@ impl Grid {
         ensures { result ≡ self.now.first }
     {
         self.first
+    }
+
+    /// The three extents.
+    pub fn extents(&self) -> [usize; 3]
+        ensures { result ≡ self.now.first ∷ self.now.deep ∷ self.now.wide ∷ [] }
+    {
+        [self.first, self.deep, self.wide]
+    }
+
+    /// The cells in order, the last subscript running fastest.
+    pub fn cells(&self) -> &Cells
+        ensures { result.now ≡ self.now.cells }
+    {
+        &self.cells
     }
 
     /// Appends rows of zeros.

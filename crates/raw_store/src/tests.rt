@@ -49,5 +49,7 @@ fn a_grid_grows_by_rows(rt: HostRuntime) -> Result<(), Fail> {
     cells.set(4, 9);
     let grid = Grid::from_cells(cells, 3, [2, 1]);
     assert_eq!(rt; grid.get([2, 0, 0]), 9);
+    assert_eq!(rt; grid.extents(), [3, 2, 1]);
+    assert_eq!(rt; grid.cells().len(), 6);
     Ok(())
 }
