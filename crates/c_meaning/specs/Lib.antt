@@ -1,0 +1,12 @@
+pub mod Names
+pub mod Weighed
+pub mod Value
+pub mod Capped
+pub mod Scope
+pub mod Memory
+pub mod Inputs
+pub mod Ground
+pub mod Listing
+pub mod Order
+pub mod Run
+pub mod Programs

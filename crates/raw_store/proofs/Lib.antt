@@ -1,0 +1,4 @@
+pub mod Deeds
+pub mod Spans
+pub mod Blocks
+pub mod Directory

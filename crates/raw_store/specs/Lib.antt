@@ -1,0 +1,5 @@
+pub mod Memory
+pub mod Block
+pub mod Directory
+pub mod Rows
+pub mod GridInside
