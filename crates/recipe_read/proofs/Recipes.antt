@@ -1,11 +1,10 @@
 -- A recipe that is read line by line.
-use Rattle.std.proofs.Common.{◌≡◌, ℕ, zero, suc, ◌+◌, ◌-◌, ◌<◌, ◌≤◌, Bool, true, false, not, cond, eqb, leb, List, [], ◌∷◌, ◌++◌, length, take, drop, Option, Some, None, Result, Ok, Err, refl, sym, ◌∙◌, ap, subst, arith, rules, append_assoc, length-append, length-drop}
+use Rattle.std.proofs.Common.{◌≡◌, ℕ, suc, ◌+◌, ◌-◌, ◌<◌, ◌≤◌, true, false, not, cond, eqb, leb, List, [], ◌∷◌, ◌++◌, length, take, drop, Option, Some, None, Ok, Err, refl, sym, ◌∙◌, ap, subst, arith, append_assoc, length-append, length-drop}
 use Rattle.std.specs.List.{prefix_len}
 use Rattle.std.proofs.lemmas.List.{append-nil}
 use Rattle.std.proofs.lemmas.Bool.{le-leb, lt-leb}
 use Rattle.recipe_read.specs.declared.command.Command.{Command}
 use Rattle.recipe_read.specs.declared.cursor.Class.TheVariants.{InLine}
-use Rattle.recipe_read.specs.declared.recipe.RecipeFault.{RecipeFault}
 use Rattle.recipe_read.specs.declared.recipe.RecipeFault.TheVariants.{Line, Limit}
 use Rattle.recipe_read.specs.Words.{Text}
 use Rattle.recipe_read.specs.Cursor.{is_in}

@@ -1,11 +1,11 @@
 -- The commands of a recipe, each as one line writes it. Blanks may stand between its tokens.
-use Rattle.std.specs.Prelude.{◌≡◌, ℕ, zero, suc, ℤ, Bool, if◌then◌else◌, ◌==◌, List, [], ◌∷◌, ◌++◌, length, Option, Some, None}
+use Rattle.std.specs.Prelude.{ℕ, zero, suc, ℤ, if◌then◌else◌, List, [], ◌∷◌, ◌++◌, length, Some}
 use Rattle.recipe_read.specs.declared.command.Command.{Command}
 use Rattle.recipe_read.specs.declared.command.Command.TheVariants as to
 use Rattle.recipe_read.specs.declared.words.Verb.{Verb}
 use Rattle.recipe_read.specs.declared.words.Verb.TheVariants as verb
 use Rattle.recipe_read.specs.Words.{Text}
-use Rattle.recipe_read.specs.Cursor.{Reader, and_then, ◌>>=◌, ◌>>◌, pure, sees, after, sign, number, integer, name, layout, command_word}
+use Rattle.recipe_read.specs.Cursor.{Reader, ◌>>=◌, ◌>>◌, pure, sees, after, sign, number, integer, name, layout, command_word}
 
 -- ---- lists in brackets
 

@@ -37,10 +37,7 @@ fn levels(alloc: Global, line: &mut Cursor<'_>) -> Result<List<usize>, Stop<BadL
 }
 
 // The integers behind those found, each after a comma.
-fn further_integers(
-    line: &mut Cursor<'_>,
-    mut found: List<i32>,
-) -> Result<List<i32>, Stop<BadLine>>
+fn further_integers(line: &mut Cursor<'_>, mut found: List<i32>) -> Result<List<i32>, Stop<BadLine>>
     ensures { Reads (spec.further integer found line.old) result line.new }
 {
     while line.takes(b',') {

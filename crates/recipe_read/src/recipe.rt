@@ -95,3 +95,6 @@ pub fn read_recipe(alloc: Global, text: &[u8]) -> Result<List<Command>, Stop<Rec
     }
     Ok(commands)
 }
+
+#[cfg(test)]
+mod tests;

@@ -1,7 +1,6 @@
-use Rattle.std.proofs.Common.{◌≡◌, ◌+◌, ◌<◌, length, take, drop, sym, ap, ◌∙◌, arith, rules}
+use Rattle.std.proofs.Common.{◌≡◌, ◌+◌, ◌<◌, length, take, drop, ap, ◌∙◌, arith}
 use Rattle.std.proofs.lemmas.Bool.Decides.{nat_tests}
-use Rattle.std.proofs.lemmas.Grind.{common_steps}
-use Rattle.recipe_read.proofs.Recipes.{line_len, start, goes_on, goes_wrong, too_many, all_read}
+use Rattle.recipe_read.proofs.Recipes.{line_len, goes_on, goes_wrong, too_many, all_read}
 use Rattle.recipe_read.proofs.recipe.read_recipe.Goals as goal
 
 pub returns-in-Err-Refused : goal.returns-in-Err-Refused
