@@ -9,4 +9,5 @@ pub mod Ground
 pub mod Listing
 pub mod Order
 pub mod Run
+pub mod Executors
 pub mod Programs

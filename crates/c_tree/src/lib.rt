@@ -5,6 +5,8 @@ mod data;
 mod index;
 mod program;
 mod statement;
+#[cfg(test)]
+mod tests;
 
 pub use data::Expr;
 pub use index::{Cell, Index, Subscripts};

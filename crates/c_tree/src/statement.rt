@@ -50,7 +50,10 @@ pub enum Stmt {
         value: Expr,
     },
     /// An assignment to a cell of a growable index array.
-    Put { target: Cell, value: Index },
+    Put {
+        target: Cell,
+        value: Index,
+    },
     /// A growable array, with its extents behind the first.
     Declare {
         name: Name,
@@ -58,5 +61,8 @@ pub enum Stmt {
         inner: List<Index>,
     },
     /// The first extent of a growable array is extended by so many zero cells.
-    Grow { name: Name, by: Index },
+    Grow {
+        name: Name,
+        by: Index,
+    },
 }

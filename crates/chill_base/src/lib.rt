@@ -10,6 +10,8 @@ mod name;
 mod outside;
 mod padding;
 mod place;
+#[cfg(test)]
+mod tests;
 mod whole;
 
 pub use faults::{Failed, NoMemory, Stop};
