@@ -67,7 +67,7 @@ performs_turns c f F h (suc k) v m =
     let first' : Performs (f (scene_of c m) v) m (run.turn (F v) m) = record { items = first.items; last = first.last; trouble = first.trouble } in
     performs_then (f (scene_of c m) v) (listing.turns k (v +ℤ pos 1) (f (scene_of c m))) m (run.turn (F v)) (run.turns k (v +ℤ pos 1) F) first'
     (subst (λ s. Performs (listing.turns k (v +ℤ pos 1) (f s)) (F v m).last (run.turns k (v +ℤ pos 1) F (F v m).last)) (same_scene c m (f (scene_of c m) v) (F v m) first)
-      (performs_turns c f F h k (v +ℤ pos 1) (F v m).last))
+    (performs_turns c f F h k (v +ℤ pos 1) (F v m).last))
 
 -- a statement takes as many child positions in both, and its run is what its listing says
 record Runs (l : listing.Part) (r : run.Part) : Type 0 where
@@ -92,8 +92,8 @@ performs_sequence (t ∷ ts) h e c at n m =
     let m' : Memory = ((run.part t).run c at n m).last in
     performs_then _ _ m ((run.part t).run c at n) (run.sequence (map run.part ts) c at (n + (run.part t).width)) p
     (subst (λ w. Performs (listing.sequence (map listing.part ts) (scene_of c m) at (n + w)) m' (run.sequence (map run.part ts) c at (n + (run.part t).width) m')) (sym first.width)
-      (subst (λ s. Performs (listing.sequence (map listing.part ts) s at (n + (run.part t).width)) m' (run.sequence (map run.part ts) c at (n + (run.part t).width) m')) (same_scene c m _ _ p)
-        (performs_sequence ts h.1 (and_right (is_executor t) _ e) c at (n + (run.part t).width) m')))
+    (subst (λ s. Performs (listing.sequence (map listing.part ts) s at (n + (run.part t).width)) m' (run.sequence (map run.part ts) c at (n + (run.part t).width) m')) (same_scene c m _ _ p)
+    (performs_sequence ts h.1 (and_right (is_executor t) _ e) c at (n + (run.part t).width) m')))
 
 runs_as : (l l' : listing.Part) (r r' : run.Part) → l ≡ l' → r ≡ r' → Runs l' r' → Runs l r
 runs_as l l' r r' h k a = subst (λ x. Runs x r) (sym h) (subst (Runs l') (sym k) a)
@@ -104,10 +104,10 @@ loop_runs x low high body h e =
       width = refl;
       performs = λ c at n m.
           performs_given (child at n) (value_of low (sight_of c m)) _ _ m (λ l.
-            performs_given (child at n) (value_of high (sight_of c m)) _ _ m (λ k.
-              performs_turns c (λ s v. listing.sequence (map listing.part body) (bind x v s) (child at n ++ v ∷ []) 0) (λ v. run.sequence (map run.part body) (bound x v c) (child at n ++ v ∷ []) 0)
-              (λ v m'. performs_sequence body h (sym (executes-For x low high body) ∙ e) (bound x v c) (child at n ++ v ∷ []) 0 m')
-              (above_zero (k -ℤ l)) l m));
+          performs_given (child at n) (value_of high (sight_of c m)) _ _ m (λ k.
+          performs_turns c (λ s v. listing.sequence (map listing.part body) (bind x v s) (child at n ++ v ∷ []) 0) (λ v. run.sequence (map run.part body) (bound x v c) (child at n ++ v ∷ []) 0)
+          (λ v m'. performs_sequence body h (sym (executes-For x low high body) ∙ e) (bound x v c) (child at n ++ v ∷ []) 0 m')
+          (above_zero (k -ℤ l)) l m));
     })
 
 chosen : (b : Bool) (l : Listing) (F : Run) (m : Memory) → Performs l m (F m) → Performs (if b then l else listing.nothing) m ((if b then F else run.nothing) m)
@@ -121,7 +121,7 @@ guard_runs tests body h e =
       width = same_widths body h e';
       performs = λ c at n m.
           performs_given (child at n) (all_hold tests (sight_of c m)) _ _ m (λ b.
-            chosen b (listing.sequence (map listing.part body) (scene_of c m) at n) (run.sequence (map run.part body) c at n) m (performs_sequence body h e' c at n m));
+          chosen b (listing.sequence (map listing.part body) (scene_of c m) at n) (run.sequence (map run.part body) c at n) m (performs_sequence body h e' c at n m));
     })
 
 assignment_runs : (target : Cell) (how : How) (value : Expr) → IsRun (Assign target how value)

@@ -11,3 +11,4 @@ pub mod Order
 pub mod Run
 pub mod Executors
 pub mod Programs
+pub mod Examples
