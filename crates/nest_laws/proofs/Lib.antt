@@ -1,0 +1,9 @@
+pub mod Lists
+pub mod Places
+pub mod Effects
+pub mod Carriers
+pub mod Forms
+pub mod Moving
+pub mod Points
+pub mod Terms
+pub mod Rewriting

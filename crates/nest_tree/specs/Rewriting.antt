@@ -1,0 +1,43 @@
+-- Statements in which each old level is replaced by a form of the new ones.
+use Rattle.std.specs.Prelude.{◌≡◌, ℕ, suc, ◌+◌, List, ◌++◌, map, length, ℤ, pos}
+use Rattle.int_rows.specs.declared.row.Aff.{Aff}
+use Rattle.nest_tree.specs.declared.kernel.Nest.{Nest}
+use Rattle.nest_tree.specs.declared.kernel.Term.{Term}
+use Rattle.nest_tree.specs.declared.kernel.KernelRow.{KernelRow}
+use Rattle.nest_tree.specs.Lists.{IsIn, Pairwise}
+use Rattle.nest_tree.specs.Forms.{coef, value, Names, variables}
+use Rattle.nest_tree.specs.Moving.{Move}
+
+-- the old variables as forms of the new ones: the parameters, each old level by its form, and the old terms
+abbrev pub old_variables : ℕ → Move → List Aff
+old_variables params m = variables 0 params ++ ((m.piece).old ++ variables (params + length (m.piece).levels) (length (m.old).terms))
+
+-- a form of the new variables has an old form's value at the old variables' values, and names the same terms
+pub record SaysForm (olds : List Aff) (old_width new_width : ℕ) (f g : Aff) : Type 0 where
+  pub same_value : (q : List ℤ) → value q g ≡ value (map (value q) olds) f
+  pub no_more : (j : ℕ) → Names g (new_width + j) → Names f (old_width + j)
+  pub no_fewer : (j : ℕ) → Names f (old_width + j) → Names g (new_width + j)
+
+pub record SaysTerm (olds : List Aff) (old_width new_width : ℕ) (t u : Term) : Type 0 where
+  pub array : u.array ≡ t.array
+  pub at : Pairwise (SaysForm olds old_width new_width) t.at u.at
+
+pub record SaysRow (olds : List Aff) (old_width new_width : ℕ) (r s : KernelRow) : Type 0 where
+  pub equal : (s.row).equal ≡ (r.row).equal
+  pub form : SaysForm olds old_width new_width (r.row).form (s.row).form
+
+-- the form names no term, nor any variable behind the parameters and levels
+abbrev pub NamesNoTerm : ℕ → Aff → Type 0
+NamesNoTerm width f = (j : ℕ) → coef (width + j) f.coefs ≡ pos 0
+
+-- the new statement has the piece's levels and positions, the old terms and all old rows in the new variables, and then the piece's rows; the old levels' forms name no terms
+pub record IsRewritten (params : ℕ) (m : Move) : Type 0 where
+  pub old_shape : length (m.old).positions ≡ suc (length (m.old).levels)
+  pub new_shape : length (m.piece).positions ≡ suc (length (m.piece).levels)
+  pub forms : length (m.piece).old ≡ length (m.old).levels
+  pub no_terms : (f : Aff) → IsIn f (m.piece).old → NamesNoTerm (params + length (m.piece).levels) f
+  pub positions : (m.new).positions ≡ (m.piece).positions
+  pub terms : Pairwise (SaysTerm (old_variables params m) (params + length (m.old).levels) (params + length (m.piece).levels)) (m.old).terms (m.new).terms
+  pub kept : List KernelRow
+  pub says : Pairwise (SaysRow (old_variables params m) (params + length (m.old).levels) (params + length (m.piece).levels)) (m.old).rows kept
+  pub rows : (m.new).rows ≡ kept ++ (m.piece).rows
