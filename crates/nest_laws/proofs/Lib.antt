@@ -7,3 +7,4 @@ pub mod Moving
 pub mod Points
 pub mod Terms
 pub mod Rewriting
+pub mod Acts

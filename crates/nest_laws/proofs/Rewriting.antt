@@ -48,7 +48,7 @@ module _ (olds : List Aff) (old_width new_width : ℕ) (q p : List ℤ) (is : ma
   form-says : (f g : Aff) → SaysForm olds old_width new_width f g → value q g ≡ value p f
   form-says f g h = h.same_value q ∙ ap (λ (l : List ℤ). value l f) is
 
-  forms-say : (fs gs : List Aff) → Pairwise (SaysForm olds old_width new_width) fs gs → map (value q) gs ≡ map (value p) fs
+  pub forms-say : (fs gs : List Aff) → Pairwise (SaysForm olds old_width new_width) fs gs → map (value q) gs ≡ map (value p) fs
   forms-say fs gs h = pairs-map (SaysForm olds old_width new_width) (value p) (value q) form-says fs gs h
 
   module _ (i : Input) (ts us : List Term) (all : Pairwise (SaysTerm olds old_width new_width) ts us) where

@@ -7,3 +7,5 @@ pub mod Terms
 pub mod Kernels
 pub mod Moving
 pub mod Rewriting
+pub mod Levels
+pub mod Pieces

@@ -4,6 +4,9 @@ use Rattle.int_rows.specs.declared.row.Aff.{Aff}
 use Rattle.nest_tree.specs.declared.kernel.Nest.{Nest}
 use Rattle.nest_tree.specs.declared.kernel.Term.{Term}
 use Rattle.nest_tree.specs.declared.kernel.KernelRow.{KernelRow}
+use Rattle.nest_tree.specs.declared.body.Access.{Access}
+use Rattle.nest_tree.specs.declared.body.Body.{Body}
+use Rattle.nest_tree.specs.declared.body.Body.TheVariants.{Const, At, Plus, Minus, Times}
 use Rattle.nest_tree.specs.Lists.{IsIn, Pairwise}
 use Rattle.nest_tree.specs.Forms.{coef, value, Names, variables}
 use Rattle.nest_tree.specs.Moving.{Move}
@@ -26,11 +29,23 @@ pub record SaysRow (olds : List Aff) (old_width new_width : ℕ) (r s : KernelRo
   pub equal : (s.row).equal ≡ (r.row).equal
   pub form : SaysForm olds old_width new_width (r.row).form (s.row).form
 
+pub record SaysAccess (olds : List Aff) (old_width new_width : ℕ) (a b : Access) : Type 0 where
+  pub array : b.array ≡ a.array
+  pub at : Pairwise (SaysForm olds old_width new_width) a.at b.at
+
+-- the same right side but for its subscripts
+pub data SaysBody (olds : List Aff) (old_width new_width : ℕ) : Body → Body → Type 0 where
+  const : (c : ℕ) → SaysBody olds old_width new_width (Const c) (Const c)
+  at : (a b : Access) → SaysAccess olds old_width new_width a b → SaysBody olds old_width new_width (At a) (At b)
+  plus : (a b c d : Body) → SaysBody olds old_width new_width a c → SaysBody olds old_width new_width b d → SaysBody olds old_width new_width (Plus a b) (Plus c d)
+  minus : (a b c d : Body) → SaysBody olds old_width new_width a c → SaysBody olds old_width new_width b d → SaysBody olds old_width new_width (Minus a b) (Minus c d)
+  times : (a b c d : Body) → SaysBody olds old_width new_width a c → SaysBody olds old_width new_width b d → SaysBody olds old_width new_width (Times a b) (Times c d)
+
 -- the form names no term, nor any variable behind the parameters and levels
 abbrev pub NamesNoTerm : ℕ → Aff → Type 0
 NamesNoTerm width f = (j : ℕ) → coef (width + j) f.coefs ≡ pos 0
 
--- the new statement has the piece's levels and positions, the old terms and all old rows in the new variables, and then the piece's rows; the old levels' forms name no terms
+-- the new statement has the piece's levels and positions, the old terms and all old rows in the new variables, and then the piece's rows, and the same assignment; the old levels' forms name no terms
 pub record IsRewritten (params : ℕ) (m : Move) : Type 0 where
   pub old_shape : length (m.old).positions ≡ suc (length (m.old).levels)
   pub new_shape : length (m.piece).positions ≡ suc (length (m.piece).levels)
@@ -38,6 +53,9 @@ pub record IsRewritten (params : ℕ) (m : Move) : Type 0 where
   pub no_terms : (f : Aff) → IsIn f (m.piece).old → NamesNoTerm (params + length (m.piece).levels) f
   pub positions : (m.new).positions ≡ (m.piece).positions
   pub terms : Pairwise (SaysTerm (old_variables params m) (params + length (m.old).levels) (params + length (m.piece).levels)) (m.old).terms (m.new).terms
+  pub target : SaysAccess (old_variables params m) (params + length (m.old).levels) (params + length (m.piece).levels) (m.old).target (m.new).target
+  pub how : (m.new).how ≡ (m.old).how
+  pub body : SaysBody (old_variables params m) (params + length (m.old).levels) (params + length (m.piece).levels) (m.old).value (m.new).value
   pub kept : List KernelRow
   pub says : Pairwise (SaysRow (old_variables params m) (params + length (m.old).levels) (params + length (m.piece).levels)) (m.old).rows kept
   pub rows : (m.new).rows ≡ kept ++ (m.piece).rows
