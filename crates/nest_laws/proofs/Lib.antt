@@ -8,3 +8,6 @@ pub mod Points
 pub mod Terms
 pub mod Rewriting
 pub mod Acts
+pub mod Levels
+pub mod Narrow
+pub mod Pieces

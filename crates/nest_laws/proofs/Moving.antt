@@ -7,7 +7,7 @@ use Rattle.nest_tree.specs.Places.{place, Item}
 use Rattle.nest_tree.specs.Effects.{IsMoved}
 use Rattle.nest_tree.specs.Terms.{Input}
 use Rattle.nest_tree.specs.Kernels.{point, Acting, item_at, IsPointOf, IsItemOf, IsKernelList, AreDistinct}
-use Rattle.nest_tree.specs.Moving.{Move, Gives, Goes, IsMovedList, StandsFor, IsMade, ArePieces}
+use Rattle.nest_tree.specs.Moving.{Move, Gives, Goes, IsMovedList, StandsFor, IsMade, ArePieces, IsOneToOne}
 use Rattle.nest_laws.proofs.Places.{place_tells}
 
 module _ {T : Type 0} (act : Acting T) (i : Input) (moves : List Move) (nests new : List Nest) (is_made : IsMade moves nests new) (stands : (m : Move) → IsIn m moves → StandsFor act i m)
@@ -95,3 +95,18 @@ module _ {T : Type 0} (act : Acting T) (i : Input) (moves : List Move) (nests ne
     one_new = λ x y z a b c g h. one_new x y z g h;
     one_old = λ x w y a b c g h. same_old x w y y g h refl;
   }
+
+-- where each statement has one piece, and each piece is one to one, the pieces are one to one and onto
+pub one_piece_each : (i : Input) (moves : List Move) (nests : List Nest) → ((n : Nest) → IsIn n nests → (m : Move) × IsIn m moves × (m.old ≡ n)) → ((m k : Move) → IsIn m moves → IsIn k moves → m.old ≡ k.old → m ≡ k)
+    → ((m : Move) → IsIn m moves → IsOneToOne i m) → ((m k : Move) → IsIn m moves → IsIn k moves → (m.piece).positions ≡ (k.piece).positions → m ≡ k) → ArePieces i moves nests
+one_piece_each i moves nests some single one apart = record {
+  new_point = λ n vs a p. (
+      let f = some n a in
+      let m : Move = f.0 in
+      let w = (one m f.1).some vs (subst (λ (x : Nest). IsPointOf i x vs) (sym f.2) p) in
+      (m, w.0, f.1, f.2, w.1));
+  one = λ m k vs ws us a b e p g h. (
+      let s : m ≡ k = single m k a b e in
+      (s, (one m a).one vs ws us p g (subst (λ (x : Move). Gives i x vs us) (sym s) h)));
+  apart = apart;
+}

@@ -1,5 +1,5 @@
 -- Level values, and what the affine commands do to them. Levels count from 1.
-use Rattle.std.specs.Prelude.{◌≡◌, ℕ, zero, suc, ◌<◌, ◌≤◌, List, [], ◌∷◌, map, length, ℤ, pos, ◌+ℤ◌, ◌*ℤ◌, ◌-ℤ◌, ◌≤ℤ◌, neg_ℤ}
+use Rattle.std.specs.Prelude.{◌≡◌, ℕ, zero, suc, ◌<◌, ◌≤◌, List, [], ◌∷◌, map, length, ℤ, pos, ◌+ℤ◌, ◌*ℤ◌, ◌-ℤ◌, ◌≤ℤ◌, neg_ℤ, cond, nat_eq}
 use Rattle.nest_tree.specs.Lists.{IsIn}
 
 -- the value at a level
@@ -25,6 +25,16 @@ inserted (suc (suc l)) y (x ∷ xs) = x ∷ inserted (suc l) y xs
 -- `permute`: new level t is old level order[t]
 abbrev pub permuted : List ℕ → List ℤ → List ℤ
 permuted order vs = map (λ l. at_level l vs) order
+
+-- the new value at which the order has old level l, and so the old level values l, l+1 and on, one for each of `rest`
+abbrev pub value_for : ℕ → List ℕ → List ℤ → ℤ
+value_for l [] ws = pos 0
+value_for l (o ∷ order) [] = pos 0
+value_for l (o ∷ order) (w ∷ ws) = cond (nat_eq o l) w (value_for l order ws)
+
+abbrev pub unpermuted : List ℕ → List ℤ → ℕ → List ℕ → List ℤ
+unpermuted order ws l [] = []
+unpermuted order ws l (o ∷ rest) = value_for l order ws ∷ unpermuted order ws (suc l) rest
 
 -- a permutation of 1 to its length
 pub record IsPermutation (order : List ℕ) : Type 0 where

@@ -54,3 +54,8 @@ pub record ArePieces (i : Input) (moves : List Move) (nests : List Nest) : Type 
   pub new_point : (n : Nest) (vs : List ℤ) → IsIn n nests → IsPointOf i n vs → (m : Move) × (ws : List ℤ) × IsIn m moves × (m.old ≡ n) × Gives i m vs ws
   pub one : (m k : Move) (vs ws us : List ℤ) → IsIn m moves → IsIn k moves → m.old ≡ k.old → IsPointOf i m.old vs → Gives i m vs ws → Gives i k vs us → (m ≡ k) × (ws ≡ us)
   pub apart : (m k : Move) → IsIn m moves → IsIn k moves → (m.piece).positions ≡ (k.piece).positions → m ≡ k
+
+-- one piece takes each old instance to one new point; its forms give each new point one old instance
+pub record IsOneToOne (i : Input) (m : Move) : Type 0 where
+  pub some : (vs : List ℤ) → IsPointOf i m.old vs → (ws : List ℤ) × Gives i m vs ws
+  pub one : (vs ws us : List ℤ) → IsPointOf i m.old vs → Gives i m vs ws → Gives i m vs us → ws ≡ us

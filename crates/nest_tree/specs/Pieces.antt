@@ -16,15 +16,16 @@ form_at zero (f ∷ fs) = number (pos 0)
 form_at (suc zero) (f ∷ fs) = f
 form_at (suc (suc l)) (f ∷ fs) = form_at (suc l) fs
 
--- where a level stands in an order, from t on
-abbrev pub position_of : ℕ → ℕ → List ℕ → ℕ
-position_of l t [] = 0
-position_of l t (o ∷ order) = cond (nat_eq o l) t (position_of l (suc t) order)
+-- `permute`: old level l is the new level at which the order has l
+abbrev pub form_for : ℕ → List ℕ → List Aff → Aff
+form_for l [] fs = number (pos 0)
+form_for l (o ∷ order) [] = number (pos 0)
+form_for l (o ∷ order) (f ∷ fs) = cond (nat_eq o l) f (form_for l order fs)
 
--- `permute`: old level l is the new level at which the order has l; for the levels l, l+1 and on, one for each of `rest`
+-- for the levels l, l+1 and on, one for each of `rest`
 abbrev pub permuted_forms : List ℕ → List Aff → ℕ → List ℕ → List Aff
 permuted_forms order fs l [] = []
-permuted_forms order fs l (o ∷ rest) = form_at (position_of l 1 order) fs ∷ permuted_forms order fs (suc l) rest
+permuted_forms order fs l (o ∷ rest) = form_for l order fs ∷ permuted_forms order fs (suc l) rest
 
 -- `skew`: the level is the new value less the multiples of the levels before; `sum` is the form of those passed so far
 abbrev pub unskewed_forms : List ℤ → Aff → List Aff → List Aff
