@@ -67,16 +67,16 @@ module _ (olds : List Aff) (old_width new_width : ℕ) (q p : List ℤ) (is : ma
         let u = pair_at-first (SaysTerm olds old_width new_width) k ts us t all at in
         found k u.0 v u.1 (same_cell t u.0 v u.2 ∙ is)
         (λ g j a n. (
-            let f = pair_of-second (SaysForm olds old_width new_width) t.at (u.0).at g (u.2).at a in
-            found_new j (args f.0 j f.1 ((f.2).no_more j n))))
+        let f = pair_of-second (SaysForm olds old_width new_width) t.at (u.0).at g (u.2).at a in
+        found_new j (args f.0 j f.1 ((f.2).no_more j n))))
 
     found_old : (k : ℕ) → IsFound i new_width us q k → IsFound i old_width ts p k
     found_old _ (found k u v at is args) =
         let t = pair_at-second (SaysTerm olds old_width new_width) k ts us u all at in
         found k t.0 v t.1 (sym (same_cell t.0 u v t.2) ∙ is)
         (λ f j a n. (
-            let g = pair_of-first (SaysForm olds old_width new_width) (t.0).at u.at f (t.2).at a in
-            found_old j (args g.0 j g.1 ((g.2).no_fewer j n))))
+        let g = pair_of-first (SaysForm olds old_width new_width) (t.0).at u.at f (t.2).at a in
+        found_old j (args g.0 j g.1 ((g.2).no_fewer j n))))
 
 module _ {T : Type 0} (act : Acting T) (i : Input) (m : Move) (r : IsRewritten (length i.params) m)
     (same_act : (q : List ℤ) → act m.new q ≡ act m.old (map (value q) (old_variables (length i.params) m))) where

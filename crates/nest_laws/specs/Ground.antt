@@ -76,4 +76,4 @@ is_compound Subtract = true
 abbrev pub conflicts : Step → Step → Bool
 conflicts t u =
     is_among t.target (reads u.value) || is_among u.target (reads t.value)
-        || (same_spot t.target u.target && not (is_compound t.how && is_compound u.how))
+    || (same_spot t.target u.target && not (is_compound t.how && is_compound u.how))
