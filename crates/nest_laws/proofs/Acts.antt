@@ -9,10 +9,10 @@ use Rattle.nest_tree.specs.declared.body.Body.TheOpen.{Body-F}
 use Rattle.nest_tree.specs.Lists.{Pairwise}
 use Rattle.nest_tree.specs.Forms.{value}
 use Rattle.nest_tree.specs.Moving.{Move}
-use Rattle.nest_tree.specs.Rewriting.{old_variables, SaysForm, SaysAccess, SaysBody, const, at, plus, minus, times, IsRewritten}
+use Rattle.nest_tree.specs.Rewriting.{old_variables, HasValue, SaysAccess, SaysBody, const, at, plus, minus, times, IsRewritten}
 use Rattle.nest_laws.specs.Ground.{Spot, Ground, number, load, sum, difference, product, Step}
 use Rattle.nest_laws.specs.Acts.{three, spot, ground_layer, ground, act}
-use Rattle.nest_laws.proofs.Rewriting.{forms-say}
+use Rattle.nest_laws.proofs.Lists.{pairs-map}
 
 ground_at : (q : List ℤ) (b : Body) (d : Body-F Body) → out-Body b ≡ d → ground q b ≡ ground_layer q (map-Body Body Ground (ground q) d)
 unfolding ground
@@ -33,16 +33,16 @@ ground-Minus q a b = ground_at q (Minus a b) _ (outs-Minus a b)
 pub ground-Times : (q : List ℤ) (a b : Body) → ground q (Times a b) ≡ product (ground q a) (ground q b)
 ground-Times q a b = ground_at q (Times a b) _ (outs-Times a b)
 
-module _ (olds : List Aff) (old_width new_width : ℕ) (q : List ℤ) where
-  same_spot_named : (a b : Access) → SaysAccess olds old_width new_width a b → spot q b ≡ spot (map (value q) olds) a
+module _ (olds : List Aff) (q : List ℤ) where
+  same_spot_named : (a b : Access) → SaysAccess olds a b → spot q b ≡ spot (map (value q) olds) a
   same_spot_named a b h =
       ap (λ (x : List ℕ). record { array = x; at = three (map (value q) b.at) }) h.array
-      ∙ ap (λ (is : List ℤ). record { array = a.array; at = three is }) (forms-say olds old_width new_width q (map (value q) olds) refl a.at b.at h.at)
+      ∙ ap (λ (is : List ℤ). record { array = a.array; at = three is }) (pairs-map (HasValue olds) (value (map (value q) olds)) (value q) (λ f g k. k q) a.at b.at h.at)
 
   both : (f : Ground → Ground → Ground) (x y z w : Ground) → x ≡ z → y ≡ w → f x y ≡ f z w
   both f x y z w e g = ap (λ (u : Ground). f u y) e ∙ ap (λ (u : Ground). f z u) g
 
-  same_ground : (a b : Body) → SaysBody olds old_width new_width a b → ground q b ≡ ground (map (value q) olds) a
+  same_ground : (a b : Body) → SaysBody olds a b → ground q b ≡ ground (map (value q) olds) a
   same_ground _ _ (const c) = ground-Const q c ∙ sym (ground-Const (map (value q) olds) c)
   same_ground _ _ (at a b h) = ground-At q b ∙ ap load (same_spot_named a b h) ∙ sym (ground-At (map (value q) olds) a)
   same_ground _ _ (plus a b c d h k) = ground-Plus q c d ∙ both sum _ _ _ _ (same_ground a c h) (same_ground b d k) ∙ sym (ground-Plus (map (value q) olds) a b)
@@ -52,9 +52,7 @@ module _ (olds : List Aff) (old_width new_width : ℕ) (q : List ℤ) where
 pub same_act : (params : ℕ) (m : Move) → IsRewritten params m → (q : List ℤ) → act m.new q ≡ act m.old (map (value q) (old_variables params m))
 same_act params m r q =
     let olds : List Aff = old_variables params m in
-    let w : ℕ = params + length (m.old).levels in
-    let w' : ℕ = params + length (m.piece).levels in
     let p : List ℤ = map (value q) olds in
-    ap (λ (x : Spot). record { target = x; how = (m.new).how; value = ground q (m.new).value }) (same_spot_named olds w w' q (m.old).target (m.new).target r.target)
+    ap (λ (x : Spot). record { target = x; how = (m.new).how; value = ground q (m.new).value }) (same_spot_named olds q (m.old).target (m.new).target r.target)
     ∙ ap (λ (h : How). record { target = spot p (m.old).target; how = h; value = ground q (m.new).value }) r.how
-    ∙ ap (λ (g : Ground). record { target = spot p (m.old).target; how = (m.old).how; value = g }) (same_ground olds w w' q (m.old).value (m.new).value r.body)
+    ∙ ap (λ (g : Ground). record { target = spot p (m.old).target; how = (m.old).how; value = g }) (same_ground olds q (m.old).value (m.new).value r.body)

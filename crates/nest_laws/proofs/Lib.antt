@@ -14,3 +14,4 @@ pub mod Pieces
 pub mod Commuting
 pub mod Skewing
 pub mod Laws
+pub mod Made

@@ -10,18 +10,18 @@ use Rattle.nest_tree.specs.Levels.{without}
 use Rattle.nest_tree.specs.Pieces.{form_at, form_for, permuted_forms, unskewed_forms, unshifted_forms, IsLike}
 use Rattle.nest_tree.specs.Rewriting.{NamesNoTerm}
 
-coef-added : (j : ℕ) (cs ds : List ℤ) → coef j (added cs ds) ≡ coef j cs +ℤ coef j ds
+pub coef-added : (j : ℕ) (cs ds : List ℤ) → coef j (added cs ds) ≡ coef j cs +ℤ coef j ds
 coef-added j [] ds = omega (arith, ints)
 coef-added j (c ∷ cs) [] = omega (arith, ints)
 coef-added zero (c ∷ cs) (d ∷ ds) = refl
 coef-added (suc j) (c ∷ cs) (d ∷ ds) = coef-added j cs ds
 
-coef-scaled : (j : ℕ) (c : ℤ) (ds : List ℤ) → coef j (map (λ d. c *ℤ d) ds) ≡ c *ℤ coef j ds
+pub coef-scaled : (j : ℕ) (c : ℤ) (ds : List ℤ) → coef j (map (λ d. c *ℤ d) ds) ≡ c *ℤ coef j ds
 coef-scaled j c [] = sym (*ℤ-zero c)
 coef-scaled zero c (d ∷ ds) = refl
 coef-scaled (suc j) c (d ∷ ds) = coef-scaled j c ds
 
-coef-zeros : (k j : ℕ) → coef (k + suc j) (zeros k (pos 1 ∷ [])) ≡ pos 0
+pub coef-zeros : (k j : ℕ) → coef (k + suc j) (zeros k (pos 1 ∷ [])) ≡ pos 0
 coef-zeros zero j = let e : 0 + suc j ≡ suc j = omega arith in ap (λ (n : ℕ). coef n (pos 1 ∷ [])) e
 coef-zeros (suc k) j = let e : suc k + suc j ≡ suc (k + suc j) = omega arith in ap (λ (n : ℕ). coef n (pos 0 ∷ zeros k (pos 1 ∷ []))) e ∙ coef-zeros k j
 
