@@ -14,8 +14,8 @@ use Rattle.nest_tree.specs.Pieces.{IsTiledPiece}
 use Rattle.nest_laws.specs.Ground.{Step, Cells, perform, conflicts}
 use Rattle.nest_laws.specs.Acts.{act}
 use Rattle.nest_laws.specs.ListLaws.{PlacesHaveAnOrder, PlaceTellsInstance, CarriersTellOrder, MembersTellSortedList, KernelHasOneList, AreInConflict, effect_of, OrderKeepsEffect}
-use Rattle.nest_laws.specs.KernelLaws.{TermsHaveTheirReadings, RewrittenStandsForOld, OnePieceEach, MadeKernelHasMovedList}
-use Rattle.nest_laws.specs.PieceLaws.{PermuteIsOneToOne, TileIsOneToOne, SkewIsOneToOne, ShiftIsOneToOne, PlaceIsOneToOne, SkewKeepsOrder}
+use Rattle.nest_laws.specs.KernelLaws.{TermsHaveTheirReadings, RewrittenStandsForOld, OnePieceEach, MadeKernelHasMovedList, FittingPieceMakes}
+use Rattle.nest_laws.specs.PieceLaws.{PermuteIsOneToOne, TileIsOneToOne, SkewIsOneToOne, ShiftIsOneToOne, PlaceIsOneToOne, SkewKeepsOrder, UnrollIsOneToOne}
 use Rattle.nest_laws.proofs.Lists.{same_list, one_list}
 use Rattle.nest_laws.proofs.Places.{order_of_places, in_some_order, place_tells}
 use Rattle.nest_laws.proofs.Carriers.{carrier_of, carried_before}
@@ -27,6 +27,8 @@ use Rattle.nest_laws.proofs.Acts.{same_act}
 use Rattle.nest_laws.proofs.Moving.{moved_list, moved, one_piece_each}
 use Rattle.nest_laws.proofs.Pieces.{permute-one_to_one, tile-one_to_one, skew-one_to_one, shift-one_to_one, place-one_to_one}
 use Rattle.nest_laws.proofs.Skewing.{skew-order}
+use Rattle.nest_laws.proofs.Made.{made-rewritten}
+use Rattle.nest_laws.proofs.Unrolling.{unrolled_some, unrolled_one, unrolled_within}
 
 pub places : PlacesHaveAnOrder
 places = (order_of_places, in_some_order)
@@ -91,3 +93,10 @@ place_pieces i m r same h = place-one_to_one i m r same h
 
 pub skew_order : SkewKeepsOrder
 skew_order = skew-order
+
+pub fitting : FittingPieceMakes
+fitting = made-rewritten
+
+pub unroll_law : UnrollIsOneToOne
+unroll_law low zero us v h = absurd (omega (arith, h))
+unroll_law low (suc factor) us v h = (unrolled_some low factor us v, unrolled_one low factor us v, unrolled_within low factor us v)

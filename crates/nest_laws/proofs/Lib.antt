@@ -15,3 +15,4 @@ pub mod Commuting
 pub mod Skewing
 pub mod Laws
 pub mod Made
+pub mod Unrolling

@@ -2,13 +2,14 @@
 use Rattle.std.specs.Prelude.{◌≡◌, ℕ, List, ◌++◌, map, length, ℤ}
 use Rattle.nest_tree.specs.declared.kernel.Nest.{Nest}
 use Rattle.nest_tree.specs.declared.kernel.Term.{Term}
+use Rattle.nest_tree.specs.declared.moves.Piece.{Piece}
 use Rattle.nest_tree.specs.Lists.{IsIn}
 use Rattle.nest_tree.specs.Places.{Item}
 use Rattle.nest_tree.specs.Effects.{IsMoved}
 use Rattle.nest_tree.specs.Terms.{Input, reading, term_values, HaveRanks}
 use Rattle.nest_tree.specs.Kernels.{IsKernelList, AreDistinct}
 use Rattle.nest_tree.specs.Moving.{Move, Goes, IsMovedList, StandsFor, IsMade, ArePieces, IsOneToOne}
-use Rattle.nest_tree.specs.Rewriting.{IsRewritten}
+use Rattle.nest_tree.specs.Rewriting.{IsRewritten, IsWide, FitsWide}
 use Rattle.nest_laws.specs.Ground.{Step}
 use Rattle.nest_laws.specs.Acts.{act}
 
@@ -33,3 +34,7 @@ abbrev pub MadeKernelHasMovedList : Type 0
 MadeKernelHasMovedList =
     (i : Input) (moves : List Move) (nests new : List Nest) → IsMade moves nests new → ((m : Move) → IsIn m moves → StandsFor act i m) → ArePieces i moves nests → AreDistinct nests
     → (xs ys : List (Item Step)) → IsKernelList act i nests xs → IsKernelList act i new ys → IsMovedList act i moves xs ys × IsMoved (Goes act i moves) xs ys
+
+-- for each statement and each piece that fits it there is a rewritten statement
+abbrev pub FittingPieceMakes : Type 0
+FittingPieceMakes = (params : ℕ) (n : Nest) (p : Piece) → IsWide params n → FitsWide params n p → (new : Nest) × IsRewritten params (record { old = n; piece = p; new = new })

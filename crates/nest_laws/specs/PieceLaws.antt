@@ -1,10 +1,11 @@
 -- Laws of the affine commands' pieces: each takes the old instances of a statement to its new points one to one.
-use Rattle.std.specs.Prelude.{◌≡◌, ℕ, suc, ◌≤◌, ◌<◌, List, length, ℤ, pos}
+use Rattle.std.specs.Prelude.{◌≡◌, ℕ, suc, ◌≤◌, ◌<◌, List, length, ℤ, pos, ◌≤ℤ◌}
 use Rattle.nest_tree.specs.Places.{IsBefore, place, IsInstance}
 use Rattle.nest_tree.specs.Terms.{Input}
 use Rattle.nest_tree.specs.Moving.{Move, IsOneToOne}
 use Rattle.nest_tree.specs.Rewriting.{IsRewritten}
 use Rattle.nest_tree.specs.Levels.{IsPermutation, NoTwice, skewed}
+use Rattle.nest_tree.specs.Unrolling.{Upper, MeetsUppers, Part, IsUnrolled}
 use Rattle.nest_tree.specs.Pieces.{IsPermutedPiece, IsTiledPiece, IsSkewedPiece, IsShiftedPiece, IsPlacedPiece}
 
 abbrev pub old_depth : Move → ℕ
@@ -40,3 +41,11 @@ abbrev pub SkewKeepsOrder : Type 0
 SkewKeepsOrder =
     (coefs : List ℤ) (ps : List ℕ) (vs : List ℤ) (qs : List ℕ) (ws : List ℤ) → IsInstance ps vs → IsInstance qs ws → IsBefore (place ps vs) (place qs ws)
     → IsBefore (place ps (skewed coefs (pos 0) vs)) (place qs (skewed coefs (pos 0) ws))
+
+-- each value of the unrolled level that meets its lower and upper rows is at one place of one group of one piece, and each value in a group meets them
+abbrev pub UnrollIsOneToOne : Type 0
+UnrollIsOneToOne =
+    (low : ℤ) (factor : ℕ) (us : List Upper) (v : ℤ) → 0 < factor
+    → (low ≤ℤ v → MeetsUppers v us → (p : Part) × (q r : ℤ) × IsUnrolled low factor us p q r v)
+    × ((p x : Part) (q r s t : ℤ) → IsUnrolled low factor us p q r v → IsUnrolled low factor us x s t v → (p ≡ x) × (q ≡ s) × (r ≡ t))
+    × ((p : Part) (q r : ℤ) → IsUnrolled low factor us p q r v → (low ≤ℤ v) × MeetsUppers v us)

@@ -1,5 +1,5 @@
 // The pieces of the affine commands map old instances to new points one to one.
-ghost use Rattle.nest_laws.specs.PieceLaws.{PermuteIsOneToOne, TileIsOneToOne, SkewIsOneToOne, ShiftIsOneToOne, PlaceIsOneToOne, SkewKeepsOrder};
+ghost use Rattle.nest_laws.specs.PieceLaws.{PermuteIsOneToOne, TileIsOneToOne, SkewIsOneToOne, ShiftIsOneToOne, PlaceIsOneToOne, SkewKeepsOrder, UnrollIsOneToOne};
 
 /// New level t is old level order[t].
 pub fn permute_is_one_to_one()
@@ -29,4 +29,9 @@ pub fn place_is_one_to_one()
 /// Instances that are skewed alike keep their order.
 pub fn skew_keeps_order()
     ensures { SkewKeepsOrder }
+{}
+
+/// A level's values are taken in groups: full ones unrolled, and a rest for each upper row.
+pub fn unroll_is_one_to_one()
+    ensures { UnrollIsOneToOne }
 {}

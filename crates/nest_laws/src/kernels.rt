@@ -1,5 +1,5 @@
 // Kernels on an input: values of terms, rewritten statements, and the kernel that pieces make.
-ghost use Rattle.nest_laws.specs.KernelLaws.{TermsHaveTheirReadings, RewrittenStandsForOld, OnePieceEach, MadeKernelHasMovedList};
+ghost use Rattle.nest_laws.specs.KernelLaws.{TermsHaveTheirReadings, RewrittenStandsForOld, OnePieceEach, MadeKernelHasMovedList, FittingPieceMakes};
 
 /// The terms' values are what the terms read at these values, and no others are.
 pub fn terms_have_their_readings()
@@ -19,4 +19,9 @@ pub fn one_piece_each()
 /// The list of the kernel that pieces make is the moved list.
 pub fn made_kernel_has_moved_list()
     ensures { MadeKernelHasMovedList }
+{}
+
+/// Each piece that fits a statement makes a rewritten one.
+pub fn fitting_piece_makes()
+    ensures { FittingPieceMakes }
 {}

@@ -7,10 +7,11 @@ mod order;
 
 pub use commands::{
     permute_is_one_to_one, place_is_one_to_one, shift_is_one_to_one, skew_is_one_to_one,
-    skew_keeps_order, tile_is_one_to_one,
+    skew_keeps_order, tile_is_one_to_one, unroll_is_one_to_one,
 };
 pub use kernels::{
-    made_kernel_has_moved_list, one_piece_each, rewritten_stands_for_old, terms_have_their_readings,
+    fitting_piece_makes, made_kernel_has_moved_list, one_piece_each, rewritten_stands_for_old,
+    terms_have_their_readings,
 };
 pub use order::{
     carriers_tell_order, kernel_has_one_list, members_tell_sorted_list, order_keeps_effect,

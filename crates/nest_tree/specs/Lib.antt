@@ -9,3 +9,4 @@ pub mod Moving
 pub mod Rewriting
 pub mod Levels
 pub mod Pieces
+pub mod Unrolling
