@@ -16,3 +16,4 @@ pub mod Skewing
 pub mod Laws
 pub mod Made
 pub mod Unrolling
+pub mod Diagonal
