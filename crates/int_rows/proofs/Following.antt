@@ -1,21 +1,19 @@
 -- What is implied by a system, and the points of a substitution.
-use Rattle.std.proofs.Common.{◌≡◌, ℕ, zero, suc, ◌<◌, ◌≤◌, ◌+◌, ◌-◌, ℤ, pos, negsuc, ◌+ℤ◌, ◌*ℤ◌, ◌-ℤ◌, neg_ℤ, ◌≤ℤ◌, ◌<ℤ◌, Bool, true, false, not, cond, List, [], ◌∷◌, ◌++◌, map, length, get_or, set, inl, inr, arith, refl, ap, sym, ◌∙◌, subst, ◌↔◌}
-use Rattle.std.specs.Prelude.{Option, Some, None, Result, Ok, Err, slice_set, nat_lt}
-use Rattle.std.specs.List.{AllByRecursion, position_from}
+use Rattle.std.proofs.Common.{◌≡◌, ℕ, zero, suc, ◌<◌, ◌≤◌, ℤ, pos, negsuc, ◌+ℤ◌, ◌*ℤ◌, ◌-ℤ◌, neg_ℤ, Bool, true, false, not, cond, List, [], ◌∷◌, ◌++◌, map, length, get_or, set, arith, refl, sym, ◌∙◌, subst}
+use Rattle.std.specs.Prelude.{Option, Some, None, Ok, Err, nat_lt}
+use Rattle.std.specs.List.{position_from}
 use Rattle.std.proofs.lemmas.Int.{ints, by_lt_z}
-use lib.IntN.{*ℤ_comm, *ℤ-zero, zero-*ℤ}
+use lib.IntN.{*ℤ-zero, zero-*ℤ}
 use Rattle.int_rows.specs.Rows.{dot, value, Holds, MeetsRow, Meets, coef_at, numbers}
-use Rattle.int_rows.specs.Elimination.{is_small, combined, combination}
-use Rattle.int_rows.specs.Exclusion.{when_left, exclusion}
-use Rattle.int_rows.specs.Systems.{Rows, IsRowOf, IsSystem, with_rows, unless_past, pushed, without, replaced, replaced_past, first_of, substituted, excluded, implied, negation}
-use Rattle.int_rows.specs.Laws.{EliminationKeepsPoints, ExcludedHasNoPoint, HasScaledPoint, OtherHasScaledPoint, ImpliedHolds, SubstitutionMovesPoints}
+use Rattle.int_rows.specs.Elimination.{is_small}
+use Rattle.int_rows.specs.Systems.{Rows, IsRowOf, with_rows, unless_past, pushed, without, replaced, replaced_past, first_of, substituted, excluded, implied, negation}
+use Rattle.int_rows.specs.Laws.{ExcludedHasNoPoint, OtherHasScaledPoint, ImpliedHolds, SubstitutionMovesPoints}
 use Rattle.int_rows.specs.declared.row.Aff.{Aff}
 use Rattle.int_rows.specs.declared.row.Row.{Row}
-use Rattle.int_rows.specs.declared.row.Excess.{Excess}
-use Rattle.int_rows.specs.declared.row.Excess.TheVariants.{Large, Many}
-use Rattle.chill_base.proofs.Ring.{expand, times_swap}
+use Rattle.int_rows.specs.declared.row.Excess.TheVariants.{Many}
+use Rattle.chill_base.proofs.Ring.{expand}
 use Rattle.chill_base.proofs.Each.{each-append, each-weaker, each-map}
-use Rattle.int_rows.proofs.FirstLaw.{dot-combined, value-combined}
+use Rattle.int_rows.proofs.FirstLaw.{value-combined}
 use Rattle.int_rows.proofs.Excluded.{excluded_has_no_point, ok_parts}
 use Rattle.int_rows.proofs.Back.{dot-set, each-unmap}
 use Rattle.int_rows.proofs.Zeros.{ZeroFrom}

@@ -7,3 +7,5 @@ pub mod Zeros
 pub mod SecondLaw
 pub mod Table
 pub mod Following
+pub mod RowsLeft
+pub mod Instances

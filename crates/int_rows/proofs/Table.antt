@@ -1,12 +1,11 @@
 -- The worked rows, computed by the definitions.
-use Rattle.std.proofs.Common.{◌≡◌, ℕ, ℤ, pos, negsuc, Bool, true, false, List, [], ◌∷◌, refl, ◌^◌, ◌-◌}
-use Rattle.std.specs.Prelude.{Result, Ok, Err}
+use Rattle.std.proofs.Common.{◌≡◌, ℤ, pos, negsuc, true, false, List, [], ◌∷◌, refl, ◌^◌, ◌-◌}
+use Rattle.std.specs.Prelude.{Ok, Err}
 use Rattle.int_rows.specs.Gcd.{gcd, gcd_of}
 use Rattle.int_rows.specs.Elimination.{elimination, made, paired, canceled, outcome, reduced, merged, made_small}
 use Rattle.int_rows.specs.Exclusion.{exclusion, is_impossible}
 use Rattle.int_rows.specs.declared.row.Row.{Row}
-use Rattle.int_rows.specs.declared.row.Excess.{Excess}
-use Rattle.int_rows.specs.declared.row.Excess.TheVariants.{Large, Many}
+use Rattle.int_rows.specs.declared.row.Excess.TheVariants.{Large}
 
 abbrev at_least : List ℤ → ℤ → Row
 at_least cs k = record { equal = false; form = record { coefs = cs; constant = k } }

@@ -1,7 +1,6 @@
 -- What elimination and exclusion mean for the points of a system.
-use Rattle.std.specs.Prelude.{◌≡◌, ℕ, ◌<◌, Bool, true, false, List, length, slice_set, ℤ, pos, ◌≤ℤ◌, ◌↔◌, Result, Ok, Err}
-use Rattle.std.specs.List.{AllByRecursion}
-use Rattle.int_rows.specs.Rows.{value, MeetsRow, Meets}
+use Rattle.std.specs.Prelude.{◌≡◌, ℕ, ◌<◌, true, false, List, length, slice_set, ℤ, pos, ◌≤ℤ◌, ◌↔◌, Ok}
+use Rattle.int_rows.specs.Rows.{value, Meets}
 use Rattle.int_rows.specs.Elimination.{elimination}
 use Rattle.int_rows.specs.Systems.{Rows, IsSystem, substituted, excluded, implied}
 use Rattle.int_rows.specs.declared.row.Aff.{Aff}
