@@ -148,16 +148,20 @@ sorted = (
     | inr (inr (inl e)) ↦ subst (Precedes (assignment (pos 1) (pos 1) (pos 1) (pos 0) (pos 0) (pos 1))) (sym e) (inr (refl, inl (omega (arith, ints))))
     | inr (inr (inr e)) ↦ absurd e
   ],
-  (λ y a. elim a [
-    | inl e ↦ subst (Precedes (assignment (pos 2) (pos 1) (pos 1) (pos 1) (pos 0) (pos 2))) (sym e) (inr (refl, inr (refl, inr (refl, inl (omega (arith, ints))))))
-    | inr (inl e) ↦ subst (Precedes (assignment (pos 2) (pos 1) (pos 1) (pos 1) (pos 0) (pos 2))) (sym e) (inr (refl, inl (omega (arith, ints))))
-    | inr (inr e) ↦ absurd e
-  ],
-  (λ y a. elim a [
-    | inl e ↦ subst (Precedes (assignment (pos 2) (pos 2) (pos 2) (pos 0) (pos 1) (pos 1))) (sym e) (inr (refl, inl (omega (arith, ints))))
-    | inr e ↦ absurd e
-  ],
-  (λ y a. absurd a, tt))),
+  (
+    λ y a. elim a [
+      | inl e ↦ subst (Precedes (assignment (pos 2) (pos 1) (pos 1) (pos 1) (pos 0) (pos 2))) (sym e) (inr (refl, inr (refl, inr (refl, inl (omega (arith, ints))))))
+      | inr (inl e) ↦ subst (Precedes (assignment (pos 2) (pos 1) (pos 1) (pos 1) (pos 0) (pos 2))) (sym e) (inr (refl, inl (omega (arith, ints))))
+      | inr (inr e) ↦ absurd e
+    ],
+    (
+      λ y a. elim a [
+        | inl e ↦ subst (Precedes (assignment (pos 2) (pos 2) (pos 2) (pos 0) (pos 1) (pos 1))) (sym e) (inr (refl, inl (omega (arith, ints))))
+        | inr e ↦ absurd e
+      ],
+      (λ y a. absurd a, tt),
+    ),
+  ),
 )
 
 -- the kernel's list, as places and assignments

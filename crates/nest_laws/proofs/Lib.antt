@@ -17,3 +17,6 @@ pub mod Laws
 pub mod Made
 pub mod Unrolling
 pub mod Diagonal
+pub mod Shifted
+pub mod Small
+pub mod Counter
