@@ -1,18 +1,17 @@
 -- Worked cases, computed.
-use Rattle.std.proofs.Common.{◌≡◌, refl, sym, ap, ◌∙◌, ℕ, ◌*◌, ◌^◌, ℤ, ◌*ℤ◌, pos, negsuc, Bool, true, false, List, [], ◌∷◌, Option, Some, None, Ok, Err, inl, inr, arith, subst}
+use Rattle.std.proofs.Common.{◌≡◌, sym, ap, ◌∙◌, ℕ, ◌*◌, ◌^◌, ℤ, ◌*ℤ◌, pos, negsuc, true, [], ◌∷◌, None, Ok, Err, inl, inr, arith}
 use Rattle.std.proofs.lemmas.Int.{ints}
-use Rattle.c_meaning.specs.Order.{IsIn, StandsBefore, HasNoTwice, IsReordering}
+use Rattle.c_meaning.specs.Order.{IsIn, StandsBefore, IsReordering}
 use Rattle.c_meaning.specs.Listing.{Item}
 use Rattle.c_meaning.specs.Ground.{Step, number}
-use Rattle.c_tree.specs.declared.index.Index.{Index}
 use Rattle.c_tree.specs.declared.index.Index.TheVariants.{Const, Var, Plus, Minus, Times, Floor, Ceil}
 use Rattle.c_meaning.specs.declared.fault.EvalFault.TheVariants.{Range}
 use Rattle.c_meaning.specs.Names.{Name}
 use Rattle.c_meaning.specs.Ground.{conflicts}
 use Rattle.c_meaning.specs.Weighed.{Weighed, plain, multiple_of}
 use Rattle.c_meaning.specs.Value.{Sight, measure, judged, judged_answer, on_one, value_of}
-use Rattle.c_meaning.specs.Listing.{listing, Listing}
-use Rattle.c_meaning.specs.Examples.{b, c, i, n, scene, zero_times, copy_loop, copied, added}
+use Rattle.c_meaning.specs.Listing.{listing}
+use Rattle.c_meaning.specs.Examples.{c, i, scene, zero_times, copy_loop, copied, added}
 use Rattle.c_meaning.proofs.Equations.{measure-Const, measure-Var, measure-Plus, measure-Minus, measure-Times, measure-Floor, measure-Ceil, subscripts-One}
 use Rattle.c_meaning.proofs.Parts.{listed-For, listed-Assign, ground-At}
 

@@ -1,5 +1,5 @@
 -- Induction on statements.
-use Rattle.std.proofs.Common.{◌≡◌, sym, List, [], ◌∷◌, map, subst}
+use Rattle.std.proofs.Common.{sym, List, [], ◌∷◌, map, subst}
 use Rattle.std.specs.List.{AllByRecursion}
 use Rattle.c_tree.specs.declared.index.Cell.{Cell}
 use Rattle.c_tree.specs.declared.index.Index.{Index}

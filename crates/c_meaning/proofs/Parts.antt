@@ -1,6 +1,5 @@
 -- The definitions of runs at each kind of statement and of data expression.
-use Rattle.std.proofs.Common.{ℕ, ◌≡◌, refl, ℤ, Bool, true, false, List, [], ◌∷◌, map, ap, ◌∙◌, sym, Ok, if◌then◌else◌}
-use Rattle.std.specs.List.{list_all}
+use Rattle.std.proofs.Common.{ℕ, ◌≡◌, Bool, List, map, ap, ◌∙◌, Ok}
 use Rattle.c_tree.specs.declared.index.Cell.{Cell}
 use Rattle.c_tree.specs.declared.index.Index.{Index}
 use Rattle.c_tree.specs.declared.program.Kind.{Kind}

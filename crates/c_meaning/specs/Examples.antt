@@ -1,7 +1,7 @@
 -- Worked cases.
-use Rattle.std.specs.Prelude.{ℕ, ◌^◌, ℤ, pos, negsuc, Bool, List, [], ◌∷◌, Option, Some, None, if◌then◌else◌}
+use Rattle.std.specs.Prelude.{ℕ, ◌^◌, pos, List, [], ◌∷◌, if◌then◌else◌}
 use Rattle.c_tree.specs.declared.index.Index.{Index}
-use Rattle.c_tree.specs.declared.index.Index.TheVariants.{Const, Var, Plus, Minus, Times, Floor, Ceil}
+use Rattle.c_tree.specs.declared.index.Index.TheVariants.{Const, Var, Times}
 use Rattle.c_tree.specs.declared.index.Subscripts.TheVariants.{One}
 use Rattle.c_tree.specs.declared.index.Cell.{Cell}
 use Rattle.c_tree.specs.declared.data.Expr.TheVariants.{At as Load}
