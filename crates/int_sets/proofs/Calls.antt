@@ -1,13 +1,13 @@
 -- What the calls of a system keep, and what they answer.
-use Rattle.std.proofs.Common.{◌≡◌, ℕ, zero, suc, ◌<◌, ◌≤◌, ◌+◌, ◌-◌, ◌^◌, ℤ, pos, negsuc, neg_ℤ, ◌-ℤ◌, length, List, ◌++◌, ◌∷◌, [], Bool, true, false, not, cond, arith, refl, length-append, map, ap, sym, ◌∙◌, subst}
-use Rattle.std.specs.Prelude.{Option, Some, None, Result, Ok, Err, nat_lt, nat_le, unsigned_abs, filter}
-use Rattle.std.specs.List.{AllByRecursion, position_from, list_all, list_any}
+use Rattle.std.proofs.Common.{◌≡◌, ℕ, zero, suc, ◌<◌, ◌≤◌, ◌+◌, ◌-◌, ◌^◌, ℤ, negsuc, neg_ℤ, ◌-ℤ◌, length, List, ◌++◌, ◌∷◌, [], Bool, true, false, not, cond, arith, refl, length-append, map, ap, sym, ◌∙◌, subst}
+use Rattle.std.specs.Prelude.{Option, Some, None, Result, Ok, Err, nat_le, unsigned_abs, filter}
+use Rattle.std.specs.List.{position_from, list_all, list_any}
 use Rattle.std.proofs.lemmas.Int.{ints}
 use Rattle.std.proofs.lemmas.Bool.{le-ltb, lt-ltb, le-leb, lt-leb, and_parts, and_from}
 use Rattle.int_rows.specs.Rows.{numbers}
 use Rattle.int_rows.specs.Elimination.{is_small, made, made_small, outcome, merged, elimination}
 use Rattle.int_rows.specs.Exclusion.{is_plain, is_impossible, when_left, exclusion}
-use Rattle.int_rows.specs.Systems.{Rows, IsRowOf, IsSystem, with_rows, unless_past, pushed, replaced, replaced_past, first_of, substituted, with_left, eliminated, excluded, negation, implied}
+use Rattle.int_rows.specs.Systems.{Rows, IsRowOf, IsSystem, with_rows, pushed, replaced, replaced_past, first_of, substituted, with_left, eliminated, excluded, negation, implied}
 use Rattle.int_rows.specs.declared.row.Aff.{Aff}
 use Rattle.int_rows.specs.declared.row.Row.{Row}
 use Rattle.int_rows.specs.declared.row.Excess.{Excess}

@@ -1,7 +1,6 @@
 -- How the code's factors make the row of a cancellation.
-use Rattle.std.proofs.Common.{◌≡◌, ℕ, ℤ, pos, neg_ℤ, true, false, cond, List, refl, ap, sym, ◌∙◌}
-use Rattle.std.specs.Prelude.{Option, Some, None, unsigned_abs, int_div, int_lt}
-use Rattle.std.specs.List.{list_all}
+use Rattle.std.proofs.Common.{◌≡◌, ℕ, ℤ, pos, neg_ℤ, true, false, cond, ap, sym, ◌∙◌}
+use Rattle.std.specs.Prelude.{Some, None, unsigned_abs, int_div, int_lt}
 use Rattle.int_rows.specs.Gcd.{gcd}
 use Rattle.int_rows.specs.Rows.{coef_at, numbers}
 use Rattle.int_rows.specs.Elimination.{sums_small, combination, first_past, canceled, joined, made_small, outcome, reduced}

@@ -1,9 +1,9 @@
 -- The steps of a loop that combines two lists of numbers.
-use Rattle.std.proofs.Common.{◌≡◌, ℕ, suc, ◌+◌, ◌<◌, ℤ, pos, ◌+ℤ◌, ◌*ℤ◌, Bool, true, false, not, ◌&&◌, cond, List, [], ◌∷◌, ◌++◌, length, drop, get_or, refl, sym, ◌∙◌, append_assoc, append-nil, ◌≤◌, drop-cons, add-one, arith}
-use Rattle.std.specs.Prelude.{Option, Some, None}
-use Rattle.std.specs.List.{list_all, position_from}
+use Rattle.std.proofs.Common.{◌≡◌, ℕ, suc, ◌+◌, ◌<◌, ℤ, pos, ◌+ℤ◌, ◌*ℤ◌, Bool, true, false, not, cond, List, [], ◌∷◌, ◌++◌, length, drop, get_or, refl, sym, ◌∙◌, append_assoc, append-nil, ◌≤◌, drop-cons, add-one}
+use Rattle.std.specs.Prelude.{Some, None}
+use Rattle.std.specs.List.{position_from}
 use Rattle.std.proofs.lemmas.List.{drop_all}
-use Rattle.int_rows.specs.Elimination.{is_small, sum_small, sums_small, combined, combination, first_past}
+use Rattle.int_rows.specs.Elimination.{sum_small, sums_small, combined, combination, first_past}
 use Rattle.int_rows.specs.declared.row.Aff.{Aff}
 
 pub some_of : {A : Type 0} (t : Bool) (u z : A) → Some z ≡ cond t (Some u) None → (t ≡ true) × (z ≡ u)

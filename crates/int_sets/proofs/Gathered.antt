@@ -1,12 +1,12 @@
 -- What an elimination keeps of all that it makes.
-use Rattle.std.proofs.Common.{◌≡◌, ℕ, zero, suc, ◌+◌, ◌-◌, ◌<◌, ◌≤◌, List, ◌++◌, ◌∷◌, [], Bool, true, false, not, ◌&&◌, cond, length, map, take, drop, get_or, add-one, refl, sym, ap, ◌∙◌, subst, arith, pos}
-use Rattle.std.specs.Prelude.{Option, Some, None, Err, filter, flat_map, remove, slice_get}
+use Rattle.std.proofs.Common.{◌≡◌, ℕ, zero, suc, ◌+◌, ◌-◌, ◌<◌, List, ◌++◌, ◌∷◌, [], Bool, true, false, length, map, take, drop, get_or, add-one, refl, sym, ap, subst, arith, pos}
+use Rattle.std.specs.Prelude.{Some, None, filter, flat_map, slice_get}
 use Rattle.std.specs.List.{list_all, position_or_len}
 use Rattle.std.proofs.lemmas.Bool.{and_parts, not-true}
 use Rattle.std.proofs.lemmas.List.{map-append, take_all, length-drop}
 use Rattle.chill_base.proofs.Each.{found-passes}
 use Rattle.int_rows.specs.Rows.{coef_at}
-use Rattle.int_rows.specs.Elimination.{Made, stays, made_small, outcome, canceled, substituted, holds_not, is_above, is_below, is_equality_with, paired, made_with, made, merged}
+use Rattle.int_rows.specs.Elimination.{Made, stays, made_small, outcome, canceled, substituted, holds_not, is_above, is_below, is_equality_with, paired, made, merged}
 use Rattle.int_rows.specs.declared.row.Row.{Row}
 use Rattle.int_rows.proofs.Back.{int_eq-no}
 use Rattle.chill_base.specs.declared.faults.Stop.{Stop}

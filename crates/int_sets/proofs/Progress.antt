@@ -1,12 +1,12 @@
 -- A loop that makes rows, by the steps that are left.
-use Rattle.std.proofs.Common.{◌≡◌, ℕ, suc, ◌+◌, ◌<◌, ◌≤◌, List, ◌++◌, ◌∷◌, [], Bool, true, false, ◌&&◌, cond, length, map, drop, get_or, drop-cons, add-one, append_assoc, append-nil, refl, sym, ap, ◌∙◌, subst, arith}
-use Rattle.std.specs.Prelude.{filter, flat_map, Ok, Err}
+use Rattle.std.proofs.Common.{◌≡◌, ℕ, suc, ◌+◌, ◌<◌, ◌≤◌, List, ◌++◌, ◌∷◌, [], Bool, true, false, ◌&&◌, length, map, drop, get_or, drop-cons, add-one, append_assoc, append-nil, refl, sym, ap, ◌∙◌, subst, arith}
+use Rattle.std.specs.Prelude.{filter, flat_map}
 use Rattle.std.specs.List.{list_all}
 use Rattle.std.proofs.lemmas.Bool.{cond_both}
 use Rattle.std.proofs.lemmas.Grind.{fold-append}
 use Rattle.std.proofs.lemmas.List.{map-append, drop_all}
-use Rattle.int_rows.specs.Elimination.{Made, stays, made_small, outcome, canceled, is_above, is_below, is_alike, tightest, absorbed, merged}
-use Rattle.int_sets.specs.Gathering.{Keeps, Gathers, MakesRow}
+use Rattle.int_rows.specs.Elimination.{Made, stays, made_small, outcome, is_alike, tightest, absorbed, merged}
+use Rattle.int_sets.specs.Gathering.{Keeps}
 use Rattle.int_rows.specs.declared.row.Row.{Row}
 
 -- ---- keeping one more row

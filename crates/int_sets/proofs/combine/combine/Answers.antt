@@ -1,4 +1,4 @@
-use Rattle.std.proofs.Common.{rules, ◌≡◌, pos, ◌<◌, ◌≤◌, get_or, length, refl, sym}
+use Rattle.std.proofs.Common.{rules, ◌≡◌, pos, ◌<◌, ◌≤◌, get_or, length}
 use Rattle.std.proofs.lemmas.Int.{to_z-of_z}
 use mir.Val.{SFits}
 use mir.Syntax.{w128}

@@ -1,4 +1,4 @@
-use Rattle.std.proofs.Common.{rules, arith}
+use Rattle.std.proofs.Common.{arith}
 use Rattle.std.proofs.lemmas.Grind.{common_steps}
 use Rattle.int_rows.specs.Gcd.{gcd_of}
 use Rattle.int_sets.proofs.decide.coefs_gcd.Goals as goal

@@ -1,4 +1,4 @@
-use Rattle.std.proofs.Common.{◌≡◌, ◌≤◌, ℕ, List, length, sym, ◌∙◌, arith, Bool, not}
+use Rattle.std.proofs.Common.{◌≤◌, List, length, arith, Bool, not}
 use Rattle.std.specs.List.{position_or_len}
 use Rattle.std.proofs.lemmas.List.Sums.{prefix_len-le-length}
 use Rattle.int_rows.specs.Elimination.{is_equality_with}

@@ -1,9 +1,7 @@
-use Rattle.std.proofs.Common.{refl, sym, length, ◌-◌, ◌∙◌, map, take, drop, ◌+◌, true, false, ◌≡◌, List}
-use Rattle.std.specs.Prelude.{filter, flat_map}
+use Rattle.std.proofs.Common.{length, ◌-◌, map, take, drop, ◌+◌}
 use Rattle.std.proofs.lemmas.Result.{err_from_is_err_and}
-use Rattle.int_rows.specs.Elimination.{Made, stays, canceled, substituted, holds_not, is_above, is_below, made}
-use Rattle.int_rows.specs.declared.row.Row.{Row}
-use Rattle.int_sets.proofs.Gathered.{made-pairs, made-equality, equality-holds, gathered-both, first-stops, second-stops}
+use Rattle.int_rows.specs.Elimination.{substituted, made}
+use Rattle.int_sets.proofs.Gathered.{made-equality, equality-holds, gathered-both, first-stops, second-stops}
 use Rattle.int_sets.proofs.gather.gather_by_equality.Goals as goal
 
 pub substitute_rows-requires-clause-held : goal.substitute_rows-requires-clause-held

@@ -1,9 +1,9 @@
-use Rattle.std.proofs.Common.{refl, sym, ◌∙◌, map, take, drop, ◌+◌, true, false, ◌≡◌, List}
+use Rattle.std.proofs.Common.{map}
 use Rattle.std.specs.Prelude.{filter, flat_map}
 use Rattle.std.proofs.lemmas.Result.{err_from_is_err_and}
-use Rattle.int_rows.specs.Elimination.{Made, stays, canceled, substituted, holds_not, is_above, is_below, made}
+use Rattle.int_rows.specs.Elimination.{stays, canceled, holds_not, is_above, is_below, made}
 use Rattle.int_rows.specs.declared.row.Row.{Row}
-use Rattle.int_sets.proofs.Gathered.{made-pairs, made-equality, equality-holds, gathered-both, first-stops, second-stops}
+use Rattle.int_sets.proofs.Gathered.{made-pairs, gathered-both, first-stops, second-stops}
 use Rattle.int_sets.proofs.gather.gather_pairs.Goals as goal
 
 pub returns-in_err-keep_rows : goal.returns-in_err-keep_rows

@@ -1,7 +1,7 @@
-use Rattle.std.proofs.Common.{refl, sym, ◌∙◌, map, drop, ◌+◌, true, false, ◌≡◌}
-use Rattle.std.specs.Prelude.{filter, flat_map}
-use Rattle.int_rows.specs.Elimination.{stays, canceled, substituted, holds_not, is_above, is_below}
-use Rattle.int_sets.proofs.Progress.{progress-one, progress-one_large, progress-more, progress-large, progress-skip, progress-end, stays-made, map-here, filter-here, filter-skip, pairs-here, pairs-skip, map-end, filter-end, pairs-end}
+use Rattle.std.proofs.Common.{sym, ◌∙◌, map, drop, ◌+◌}
+use Rattle.std.specs.Prelude.{filter}
+use Rattle.int_rows.specs.Elimination.{stays, holds_not}
+use Rattle.int_sets.proofs.Progress.{progress-one, progress-skip, progress-end, stays-made, filter-here, filter-skip, filter-end}
 use Rattle.int_sets.proofs.gather.keep_rows.Goals as goal
 use Rattle.int_sets.proofs.gather.keep_rows.Goals.{then-holds_not+in_ok-made+in_ok-keep, else-holds_not}
 

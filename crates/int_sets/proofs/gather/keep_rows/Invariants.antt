@@ -1,6 +1,6 @@
 use Rattle.std.proofs.Common.{map, drop}
-use Rattle.std.specs.Prelude.{filter, flat_map}
-use Rattle.int_rows.specs.Elimination.{stays, canceled, substituted, holds_not, is_above, is_below}
+use Rattle.std.specs.Prelude.{filter}
+use Rattle.int_rows.specs.Elimination.{stays, holds_not}
 use Rattle.int_sets.proofs.Progress.{Progress}
 use Rattle.int_sets.proofs.gather.keep_rows.Given as goal
 

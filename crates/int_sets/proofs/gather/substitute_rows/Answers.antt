@@ -1,7 +1,6 @@
-use Rattle.std.proofs.Common.{refl, sym, ◌∙◌, map, drop, ◌+◌, true, false, ◌≡◌}
-use Rattle.std.specs.Prelude.{filter, flat_map}
-use Rattle.int_rows.specs.Elimination.{stays, canceled, substituted, holds_not, is_above, is_below}
-use Rattle.int_sets.proofs.Progress.{progress-one, progress-one_large, progress-more, progress-large, progress-skip, progress-end, stays-made, map-here, filter-here, filter-skip, pairs-here, pairs-skip, map-end, filter-end, pairs-end}
+use Rattle.std.proofs.Common.{map, drop, ◌+◌}
+use Rattle.int_rows.specs.Elimination.{substituted}
+use Rattle.int_sets.proofs.Progress.{progress-one, progress-end, map-here, map-end}
 use Rattle.int_sets.proofs.gather.substitute_rows.Goals as goal
 
 pub loop-row-preserved : goal.loop-row-preserved

@@ -1,7 +1,6 @@
-use Rattle.std.proofs.Common.{refl, sym, ◌∙◌, map, drop, ◌+◌, true, false, ◌≡◌}
-use Rattle.std.specs.Prelude.{filter, flat_map}
-use Rattle.int_rows.specs.Elimination.{stays, canceled, substituted, holds_not, is_above, is_below}
-use Rattle.int_sets.proofs.Progress.{progress-one, progress-one_large, progress-more, progress-large, progress-skip, progress-end, stays-made, map-here, filter-here, filter-skip, pairs-here, pairs-skip, map-end, filter-end, pairs-end}
+use Rattle.std.proofs.Common.{sym, ◌∙◌, true, ◌≡◌}
+use Rattle.int_rows.specs.Elimination.{holds_not}
+use Rattle.int_sets.proofs.Progress.{stays-made}
 use Rattle.int_sets.proofs.gather.substituted_row.Goals as goal
 
 pub returns-then-holds_not : goal.returns-then-holds_not

@@ -1,4 +1,4 @@
-use Rattle.std.proofs.Common.{rules, ◌≡◌, ◌<◌, sym, ◌∙◌}
+use Rattle.std.proofs.Common.{rules, ◌<◌, sym, ◌∙◌}
 use Rattle.std.proofs.lemmas.Result.{err_from_is_err_and}
 use Rattle.int_sets.proofs.Calls.{excludes-start, excludes-found, excludes-end, excludes-turn, excludes-stops}
 use Rattle.int_sets.proofs.system.System.excluded.Goals as goal
