@@ -1,5 +1,5 @@
 // Each call once, on values that stand for each name.
-ghost use Rattle.std.specs.Prelude.{ℕ, pos, true, [], ◌≡◌, IfOk};
+ghost use Rattle.std.specs.Prelude.{ℕ, pos, true, [], ◌∷◌, ◌≡◌, IfOk};
 ghost use Rattle.c_tree.specs.declared.index.Index.TheVariants.{Const, Var, Plus};
 
 use crate::{EvalFault, View, eval_index, eval_test};
@@ -8,15 +8,15 @@ use chill_base::{Boxed, Name};
 use std::alloc::{AllocError, Global};
 use std::test::Fail;
 
-// Each name has this value, and there are no arrays.
+// Each name has this value, and each array has no cells.
 struct Same {
     value: i64,
 }
 
 impl View for Same {
-    ghost scope = { λ v. record { numbers = λ x. true; index_arrays = λ a. 0; data_arrays = λ a. 0 } };
+    ghost scope = { λ v. record { numbers = λ x. true; index_arrays = λ a. 1; data_arrays = λ a. 0 } };
 
-    ghost sight = { λ v. record { value = λ x. v.value; extents = λ a. []; index = λ a at. pos 0 } };
+    ghost sight = { λ v. record { value = λ x. v.value; extents = λ a. pos 0 ∷ pos 1 ∷ pos 1 ∷ []; index = λ a at. pos 0 } };
 
     fn value(&self, _name: &Name) -> i64 {
         self.value

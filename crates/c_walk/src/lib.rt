@@ -1,0 +1,10 @@
+//! The run of the statements of a section, over any memory.
+#![tactic(auto)]
+
+mod halt;
+mod memory;
+mod walk;
+
+pub use halt::Halt;
+pub use memory::Memory;
+pub use walk::run_statements;
