@@ -11,7 +11,6 @@ pub mod Acts
 pub mod Levels
 pub mod Narrow
 pub mod Pieces
-pub mod Commuting
 pub mod Skewing
 pub mod Laws
 pub mod Made

@@ -1,4 +1,3 @@
-pub mod Ground
 pub mod Acts
 pub mod ListLaws
 pub mod KernelLaws
