@@ -19,3 +19,5 @@ pub mod Diagonal
 pub mod Shifted
 pub mod Small
 pub mod Counter
+pub mod Systems
+pub mod Clashes
