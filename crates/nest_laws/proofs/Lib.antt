@@ -21,3 +21,4 @@ pub mod Small
 pub mod Counter
 pub mod Systems
 pub mod Clashes
+pub mod Tested

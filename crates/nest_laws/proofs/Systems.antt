@@ -150,11 +150,11 @@ module _ (i : Input) (m k : Move) (ws vs zs us : List ℤ) (new_m : IsPointOf i 
         carried-listed c.0 (m.old).positions vs (k.old).positions us c.1,
         carried-listed d.0 (k.piece).positions zs (m.piece).positions ws d.1,
         meets-append both _ _ (rows_among both (first_variables pair) (point i m.new ws) first_are (map row_of (m.new).rows) (point-meets i m.new ws new_m))
-        (meets-append both _ _ (rows_among both (second_variables pair) (point i k.new zs) second_are (map row_of (k.new).rows) (point-meets i k.new zs new_k))
-        (meets-append both further _ hold
-        (meets-append both _ _ (equal-meets both (map (replaced (first_variables pair)) a.at) (map (replaced (second_variables pair)) b.at) (forms_among both (first_variables pair) (point i m.new ws) first_are a.at ∙ same ∙ sym (forms_among both (second_variables pair) (point i k.new zs) second_are b.at)))
-        (meets-append both _ _
-        (order-meets both c.0 (m.old).positions (k.old).positions (map (replaced (first_variables pair)) (m.piece).old) (map (replaced (second_variables pair)) (k.piece).old) vs us
-        (forms_among both (first_variables pair) (point i m.new ws) first_are (m.piece).old ∙ give_m.old) (forms_among both (second_variables pair) (point i k.new zs) second_are (k.piece).old ∙ give_k.old) c.1)
-        (order-meets both d.0 (k.piece).positions (m.piece).positions (second_levels pair) (first_levels pair) zs ws second_levels_are first_levels_are d.1))))),
+            (meets-append both _ _ (rows_among both (second_variables pair) (point i k.new zs) second_are (map row_of (k.new).rows) (point-meets i k.new zs new_k))
+            (meets-append both further _ hold
+            (meets-append both _ _ (equal-meets both (map (replaced (first_variables pair)) a.at) (map (replaced (second_variables pair)) b.at) (forms_among both (first_variables pair) (point i m.new ws) first_are a.at ∙ same ∙ sym (forms_among both (second_variables pair) (point i k.new zs) second_are b.at)))
+            (meets-append both _ _
+            (order-meets both c.0 (m.old).positions (k.old).positions (map (replaced (first_variables pair)) (m.piece).old) (map (replaced (second_variables pair)) (k.piece).old) vs us
+            (forms_among both (first_variables pair) (point i m.new ws) first_are (m.piece).old ∙ give_m.old) (forms_among both (second_variables pair) (point i k.new zs) second_are (k.piece).old ∙ give_k.old) c.1)
+            (order-meets both d.0 (k.piece).positions (m.piece).positions (second_levels pair) (first_levels pair) zs ws second_levels_are first_levels_are d.1))))),
       )

@@ -1,5 +1,5 @@
 -- The systems whose integer points are two instances that name one cell by conflicting accesses and change their order.
-use Rattle.std.specs.Prelude.{◌≡◌, ℕ, zero, suc, ◌+◌, List, [], ◌∷◌, ◌++◌, map, length, ℤ, negsuc, Bool, true, false, not, ◌&&◌, IsTrue}
+use Rattle.std.specs.Prelude.{◌≡◌, ℕ, zero, suc, ◌+◌, List, [], ◌∷◌, ◌++◌, map, length, ℤ, negsuc, ◌≤◌, Bool, true, false, not, ◌&&◌, ◌||◌, IsTrue, Ok}
 use Rattle.int_rows.specs.declared.row.Aff.{Aff}
 use Rattle.int_rows.specs.declared.row.Row.{Row}
 use Rattle.c_tree.specs.declared.statement.How.{How}
@@ -9,10 +9,15 @@ use Rattle.nest_tree.specs.declared.kernel.KernelRow.{KernelRow}
 use Rattle.nest_tree.specs.declared.body.Access.{Access}
 use Rattle.nest_tree.specs.declared.body.Body.{Body}
 use Rattle.nest_tree.specs.declared.body.Body.TheVariants.{At, Plus, Minus, Times}
-use Rattle.nest_tree.specs.Forms.{less, sum, number, replaced, replaced_row, variables}
-use Rattle.nest_tree.specs.Carriers.{Carrier, loop, text, shared}
+use Rattle.int_rows.specs.Systems.{Rows, excluded}
+use Rattle.nest_tree.specs.Lists.{IsIn}
+use Rattle.nest_tree.specs.Places.{IsBefore, place}
+use Rattle.nest_tree.specs.Forms.{less, sum, number, replaced, replaced_row, variables, Meets}
+use Rattle.nest_tree.specs.Carriers.{Carrier, loop, text, shared, IsListed}
+use Rattle.nest_tree.specs.Terms.{Input, term_values}
+use Rattle.nest_tree.specs.Kernels.{IsPointOf}
 use Rattle.nest_tree.specs.Pieces.{is_zero, is_at_least_zero}
-use Rattle.nest_tree.specs.Moving.{Move}
+use Rattle.nest_tree.specs.Moving.{Move, Gives}
 
 -- the access is one of the right side
 pub data IsRead (a : Access) : Body → Type 0 where
@@ -98,3 +103,32 @@ system p further a b c d =
     ++ (equal_rows (map (replaced (first_variables p)) a.at) (map (replaced (second_variables p)) b.at)
     ++ (order_rows c (shared ((p.first).old).positions ((p.second).old).positions) (map (replaced (first_variables p)) ((p.first).piece).old) (map (replaced (second_variables p)) ((p.second).piece).old)
     ++ order_rows d (shared ((p.second).piece).positions ((p.first).piece).positions) (second_levels p) (first_levels p)))))
+
+-- the joint point of two instances on an input
+abbrev pub joint_point : Input → Move → Move → List ℤ → List ℤ → List ℤ
+joint_point i m k ws zs = i.params ++ (ws ++ (zs ++ (term_values i (m.new).terms (i.params ++ ws) ++ term_values i (k.new).terms (i.params ++ zs))))
+
+-- how many variables a system has
+abbrev pub variables_count : Pair → ℕ
+variables_count p = (terms_from p + length ((p.first).new).terms) + length ((p.second).new).terms
+
+-- further rows, as the ranges of terms' values, that hold at each two points of two moves
+abbrev pub HoldTogether : Input → (Move → Move → List Row) → List Move → Type 0
+HoldTogether i further moves = (m k : Move) (ws zs : List ℤ) → IsIn m moves → IsIn k moves → IsPointOf i m.new ws → IsPointOf i k.new zs → Meets (joint_point i m k ws zs) (further m k)
+
+-- conflicting accesses have as many subscripts, at most three
+abbrev pub SubscriptsFit : List Move → Type 0
+SubscriptsFit moves = (m k : Move) (a b : Access) → IsIn m moves → IsIn k moves → Clash m.new k.new a b → (length a.at ≡ length b.at) × (length a.at ≤ 3)
+
+-- a command tests the systems of each two moves to one of which it applies, of each two conflicting accesses, and of each two listed carriers; all are excluded
+abbrev pub AllAreExcluded : ℕ → (Move → Move → List Row) → (Move → Bool) → List Move → Type 0
+AllAreExcluded params further applies moves =
+    (m k : Move) (a b : Access) (c d : Carrier) → IsIn m moves → IsIn k moves → IsTrue (applies m || applies k) → Clash m.new k.new a b
+    → IsListed c (m.old).positions (k.old).positions → IsListed d (k.piece).positions (m.piece).positions
+    → let p : Pair = record { params = params; first = m; second = k } in excluded (record { vars = variables_count p; rows = system p (further m k) a b c d }) ≡ Ok true
+
+-- two instances to whose moves the command doesn't apply keep their order
+abbrev pub OthersKeepOrder : Input → (Move → Bool) → List Move → Type 0
+OthersKeepOrder i applies moves =
+    (m k : Move) (vs ws us zs : List ℤ) → IsIn m moves → IsIn k moves → applies m ≡ false → applies k ≡ false → Gives i m vs ws → Gives i k us zs
+    → IsBefore (place (m.old).positions vs) (place (k.old).positions us) → IsBefore (place (m.piece).positions ws) (place (k.piece).positions zs)
