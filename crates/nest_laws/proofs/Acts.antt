@@ -10,7 +10,8 @@ use Rattle.nest_tree.specs.Lists.{Pairwise}
 use Rattle.nest_tree.specs.Forms.{value}
 use Rattle.nest_tree.specs.Moving.{Move}
 use Rattle.nest_tree.specs.Rewriting.{old_variables, HasValue, SaysAccess, SaysBody, const, at, plus, minus, times, IsRewritten}
-use Rattle.nest_laws.specs.Ground.{Spot, Ground, number, load, sum, difference, product, Step}
+use Rattle.c_meaning.specs.Memory.{Spot}
+use Rattle.c_meaning.specs.Ground.{Ground, number, load, sum, difference, product, Step}
 use Rattle.nest_laws.specs.Acts.{three, spot, ground_layer, ground, act}
 use Rattle.nest_laws.proofs.Lists.{pairs-map}
 

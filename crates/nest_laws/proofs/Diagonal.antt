@@ -16,7 +16,8 @@ use Rattle.nest_tree.specs.Places.{place, IsInstance, Item, Precedes}
 use Rattle.nest_tree.specs.Forms.{value, Names, coef}
 use Rattle.nest_tree.specs.Terms.{Input}
 use Rattle.nest_tree.specs.Kernels.{point, item_at, IsMet, IsPointOf, IsItemOf, IsKernelList}
-use Rattle.nest_laws.specs.Ground.{Spot, Ground, load, Step}
+use Rattle.c_meaning.specs.Memory.{Spot}
+use Rattle.c_meaning.specs.Ground.{Ground, load, Step}
 use Rattle.nest_laws.specs.Acts.{act, ground, spot}
 use Rattle.nest_laws.proofs.Acts.{ground-At}
 

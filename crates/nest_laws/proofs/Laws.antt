@@ -1,5 +1,5 @@
 -- The laws in the form in which the functions of this crate state them.
-use Rattle.std.proofs.Common.{◌≡◌, ◌⊎◌, inl, inr, ℕ, zero, suc, ◌≤◌, ◌<◌, List, [], ◌∷◌, length, refl, sym, ap, subst, arith, ℤ, pos, Bool, true, false}
+use Rattle.std.proofs.Common.{◌≡◌, ◌⊎◌, inl, inr, ℕ, zero, suc, ◌≤◌, ◌<◌, List, [], ◌∷◌, length, refl, sym, ◌∙◌, ap, subst, arith, ℤ, pos, Bool, true, false}
 use Rattle.std.proofs.lemmas.Bool.{cases_Bool}
 use Rattle.nest_tree.specs.declared.kernel.Nest.{Nest}
 use Rattle.nest_tree.specs.Lists.{IsIn, IsStrictlySorted, IsStrictOrder}
@@ -11,7 +11,8 @@ use Rattle.nest_tree.specs.Kernels.{IsKernelList, IsItemOf}
 use Rattle.nest_tree.specs.Moving.{Move, Goes, IsOneToOne}
 use Rattle.nest_tree.specs.Rewriting.{IsRewritten}
 use Rattle.nest_tree.specs.Pieces.{IsTiledPiece}
-use Rattle.nest_laws.specs.Ground.{Step, Cells, perform, conflicts}
+use Rattle.c_meaning.specs.Memory.{Cells}
+use Rattle.c_meaning.specs.Ground.{Step, perform, conflicts}
 use Rattle.nest_laws.specs.Acts.{act}
 use Rattle.nest_laws.specs.ListLaws.{PlacesHaveAnOrder, PlaceTellsInstance, CarriersTellOrder, MembersTellSortedList, KernelHasOneList, AreInConflict, effect_of, OrderKeepsEffect}
 use Rattle.nest_laws.specs.KernelLaws.{TermsHaveTheirReadings, RewrittenStandsForOld, OnePieceEach, MadeKernelHasMovedList, FittingPieceMakes}
@@ -20,7 +21,7 @@ use Rattle.nest_laws.proofs.Lists.{same_list, one_list}
 use Rattle.nest_laws.proofs.Places.{order_of_places, in_some_order, place_tells}
 use Rattle.nest_laws.proofs.Carriers.{carrier_of, carried_before}
 use Rattle.nest_laws.proofs.Effects.{same_effect}
-use Rattle.nest_laws.proofs.Commuting.{swap}
+use Rattle.c_meaning.proofs.Spots.{swap}
 use Rattle.nest_laws.proofs.Terms.{term_values_hold, only_values}
 use Rattle.nest_laws.proofs.Rewriting.{rewritten-stands}
 use Rattle.nest_laws.proofs.Acts.{same_act}
@@ -55,10 +56,16 @@ one_kernel_list i nests xs ys p q = one_list Precedes order_of_items (IsItemOf a
 apart : (x y : Item Step) → AreInConflict x y ⊎ ((s : Cells) → perform y.step (perform x.step s) ≡ perform x.step (perform y.step s))
 apart x y = elim (cases_Bool (conflicts x.step y.step)) [ inl t ↦ inl t | inr f ↦ inr (swap x.step y.step f) ]
 
+by_items : (xs : List (Item Step)) (s : Cells) → effect_of xs s ≡ effect (λ (x : Item Step). perform x.step) xs s
+by_items [] s = refl
+by_items (x ∷ xs) s = by_items xs (perform x.step s)
+
 pub keeps_effect : OrderKeepsEffect
 keeps_effect i moves xs ys p q m k s =
-    same_effect (λ (x : Item Step). perform x.step) (λ (x : Item Step). perform x.step) (Goes act i moves) AreInConflict Precedes Precedes order_of_items order_of_items
+    by_items ys s
+    ∙ same_effect (λ (x : Item Step). perform x.step) (λ (x : Item Step). perform x.step) (Goes act i moves) AreInConflict Precedes Precedes order_of_items order_of_items
     (λ x y g s. ap (λ (z : Item Step). perform z.step s) g.to) apart ys xs p q m k s
+    ∙ sym (by_items xs s)
 
 pub readings : TermsHaveTheirReadings
 readings i terms p rank ranks = (term_values_hold i terms p rank ranks, only_values i terms p rank ranks)

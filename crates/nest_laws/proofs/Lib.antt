@@ -11,7 +11,6 @@ pub mod Acts
 pub mod Levels
 pub mod Narrow
 pub mod Pieces
-pub mod Commuting
 pub mod Skewing
 pub mod Laws
 pub mod Made
@@ -20,3 +19,6 @@ pub mod Diagonal
 pub mod Shifted
 pub mod Small
 pub mod Counter
+pub mod Systems
+pub mod Clashes
+pub mod Tested

@@ -14,7 +14,8 @@ use Rattle.nest_tree.specs.declared.moves.Piece.{Piece}
 use Rattle.nest_tree.specs.declared.form.Form.{Form}
 use Rattle.std.specs.Prelude.{None}
 use Rattle.nest_tree.specs.Lists.{IsIn, Pairwise}
-use Rattle.nest_tree.specs.Forms.{dot, value, coef, Names, combined, replaced, replaced_row, times, zeros, variables}
+use Rattle.int_rows.specs.Rows.{dot}
+use Rattle.nest_tree.specs.Forms.{value, coef, Names, combined, replaced, replaced_row, times, zeros, variables}
 use Rattle.nest_tree.specs.Moving.{Move}
 use Rattle.nest_tree.specs.Rewriting.{variables_of, HasValue, SaysForm, SaysTerm, SaysRow, SaysAccess, SaysBody, const, at, plus, minus, times as times_says, NamesNoTerm, IsRewritten, AreWithin, IsWide, FitsWide}
 use Rattle.nest_laws.proofs.Lists.{in_append, map-append}

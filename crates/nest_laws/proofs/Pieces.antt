@@ -6,7 +6,8 @@ use Rattle.int_rows.specs.declared.row.Aff.{Aff}
 use Rattle.nest_tree.specs.declared.kernel.KernelRow.{KernelRow}
 use Rattle.nest_tree.specs.Lists.{IsIn, Pairwise}
 use Rattle.nest_tree.specs.Places.{IsInstance}
-use Rattle.nest_tree.specs.Forms.{value, Names, Holds, coef, sum, times, less, number, variables}
+use Rattle.int_rows.specs.Rows.{Holds}
+use Rattle.nest_tree.specs.Forms.{value, Names, coef, sum, times, less, number, variables}
 use Rattle.nest_tree.specs.Terms.{Input, term_values, IsFound}
 use Rattle.nest_tree.specs.Kernels.{point, IsMet, IsPointOf}
 use Rattle.nest_tree.specs.Moving.{Move, Gives, IsOneToOne}

@@ -7,7 +7,8 @@ use Rattle.std.proofs.lemmas.Bool.Decides.{Decides-int_eq}
 use lib.IntN.{zero-*ℤ, *ℤ-zero}
 use Rattle.int_rows.specs.declared.row.Aff.{Aff}
 use Rattle.nest_tree.specs.Lists.{IsIn, IsAt}
-use Rattle.nest_tree.specs.Forms.{dot, value, coef}
+use Rattle.int_rows.specs.Rows.{dot}
+use Rattle.nest_tree.specs.Forms.{value, coef}
 
 -- a number is 0, or isn't
 pub zero_or_not : (c : ℤ) → (c ≡ pos 0) ⊎ ((c ≡ pos 0) → ⊥)

@@ -5,7 +5,8 @@ use Rattle.nest_tree.specs.declared.kernel.Term.{Term}
 use Rattle.nest_tree.specs.declared.kernel.KernelRow.{KernelRow}
 use Rattle.nest_tree.specs.Lists.{IsIn, IsAt, Pairwise}
 use Rattle.nest_tree.specs.Places.{IsInstance}
-use Rattle.nest_tree.specs.Forms.{value, Names, Holds, variables}
+use Rattle.int_rows.specs.Rows.{Holds}
+use Rattle.nest_tree.specs.Forms.{value, Names, variables}
 use Rattle.nest_tree.specs.Terms.{Input, or_zero, reading, rounds, term_values, IsFound, found}
 use Rattle.nest_tree.specs.Kernels.{Acting, point, IsMet, IsPointOf}
 use Rattle.nest_tree.specs.Moving.{Move, Gives, StandsFor}

@@ -18,7 +18,7 @@ use Rattle.nest_tree.specs.Kernels.{IsKernelList, AreDistinct}
 use Rattle.nest_tree.specs.Moving.{Move, Goes, IsMovedList, IsMade, ArePieces, IsOneToOne, StandsFor}
 use Rattle.nest_tree.specs.Rewriting.{IsWide, FitsWide, IsRewritten, NamesNoTerm}
 use Rattle.nest_tree.specs.Pieces.{IsLike, HasForms, IsShiftedPiece, unshifted_forms}
-use Rattle.nest_laws.specs.Ground.{Step}
+use Rattle.c_meaning.specs.Ground.{Step}
 use Rattle.nest_laws.specs.Acts.{act}
 use Rattle.nest_laws.proofs.Made.{made-rewritten}
 use Rattle.nest_laws.proofs.Narrow.{narrow-unshifted, narrow-variables}

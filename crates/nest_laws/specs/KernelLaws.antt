@@ -10,7 +10,7 @@ use Rattle.nest_tree.specs.Terms.{Input, reading, term_values, HaveRanks}
 use Rattle.nest_tree.specs.Kernels.{IsKernelList, AreDistinct}
 use Rattle.nest_tree.specs.Moving.{Move, Goes, IsMovedList, StandsFor, IsMade, ArePieces, IsOneToOne}
 use Rattle.nest_tree.specs.Rewriting.{IsRewritten, IsWide, FitsWide}
-use Rattle.nest_laws.specs.Ground.{Step}
+use Rattle.c_meaning.specs.Ground.{Step}
 use Rattle.nest_laws.specs.Acts.{act}
 
 -- where no term holds itself, the terms' values are what the terms read at these values, and no other values are

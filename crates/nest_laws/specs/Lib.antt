@@ -1,5 +1,5 @@
-pub mod Ground
 pub mod Acts
 pub mod ListLaws
 pub mod KernelLaws
 pub mod PieceLaws
+pub mod SystemLaws

@@ -1,14 +1,15 @@
 -- Laws of placed lists: their order, what carries it, and what the order means for the effect.
-use Rattle.std.specs.Prelude.{◌≡◌, ◌⊎◌, ℕ, List, ℤ, IsTrue}
+use Rattle.std.specs.Prelude.{◌≡◌, ◌⊎◌, ℕ, List, map, ℤ, IsTrue}
 use Rattle.nest_tree.specs.declared.kernel.Nest.{Nest}
 use Rattle.nest_tree.specs.Lists.{IsIn, IsStrictlySorted, IsStrictOrder}
 use Rattle.nest_tree.specs.Places.{IsBefore, place, IsInstance, Item, Precedes}
 use Rattle.nest_tree.specs.Carriers.{Carrier, IsCarried}
-use Rattle.nest_tree.specs.Effects.{effect, IsMoved, KeepsOrder}
+use Rattle.nest_tree.specs.Effects.{IsMoved, KeepsOrder}
 use Rattle.nest_tree.specs.Terms.{Input}
 use Rattle.nest_tree.specs.Kernels.{IsKernelList}
 use Rattle.nest_tree.specs.Moving.{Move, Goes}
-use Rattle.nest_laws.specs.Ground.{Step, Cells, perform, conflicts}
+use Rattle.c_meaning.specs.Memory.{Cells}
+use Rattle.c_meaning.specs.Ground.{Step, conflicts, effect}
 use Rattle.nest_laws.specs.Acts.{act}
 
 -- the order of places is strict, and of two places one is before the other or they are equal
@@ -37,9 +38,13 @@ KernelHasOneList = (i : Input) (nests : List Nest) (xs ys : List (Item Step)) �
 abbrev pub AreInConflict : Item Step → Item Step → Type 0
 AreInConflict x y = IsTrue (conflicts x.step y.step)
 
--- what a list of items does to the cells
+-- the assignments of a list of items, in order
+abbrev pub steps_of : List (Item Step) → List Step
+steps_of xs = map (λ x. x.step) xs
+
+-- what they do to the cells
 abbrev pub effect_of : List (Item Step) → Cells → Cells
-effect_of xs s = effect (λ (x : Item Step). perform x.step) xs s
+effect_of xs s = effect (steps_of xs) s
 
 -- where each conflicting pair keeps its order, a moved list has the effect of the old one
 abbrev pub OrderKeepsEffect : Type 0

@@ -2,6 +2,7 @@
 #![tactic(auto)]
 
 mod commands;
+mod dependence;
 mod kernels;
 mod order;
 
@@ -9,6 +10,7 @@ pub use commands::{
     permute_is_one_to_one, place_is_one_to_one, shift_is_one_to_one, skew_is_one_to_one,
     skew_keeps_order, tile_is_one_to_one, unroll_is_one_to_one,
 };
+pub use dependence::{excluded_systems_keep_order, tested_command_keeps_effect};
 pub use kernels::{
     fitting_piece_makes, made_kernel_has_moved_list, one_piece_each, rewritten_stands_for_old,
     terms_have_their_readings,

@@ -3,22 +3,13 @@ use Rattle.std.specs.Prelude.{◌≡◌, ℕ, zero, suc, List, [], ◌∷◌, ma
 use Rattle.std.specs.List.{AllByRecursion}
 use Rattle.int_rows.specs.declared.row.Aff.{Aff}
 use Rattle.int_rows.specs.declared.row.Row.{Row}
-
--- the sum of the products of coefficients and coordinates
-abbrev pub dot : List ℤ → List ℤ → ℤ
-dot [] p = pos 0
-dot (c ∷ cs) [] = pos 0
-dot (c ∷ cs) (x ∷ p) = c *ℤ x +ℤ dot cs p
+use Rattle.int_rows.specs.Rows.{dot, Holds}
 
 -- the value of a form at a point
 abbrev pub value : List ℤ → Aff → ℤ
 value p f = dot f.coefs p +ℤ f.constant
 
--- what a row asks of its form's value
-abbrev pub Holds : Bool → ℤ → Type 0
-Holds true v = v ≡ pos 0
-Holds false v = pos 0 ≤ℤ v
-
+-- the point meets the row
 abbrev pub MeetsRow : List ℤ → Row → Type 0
 MeetsRow p r = Holds r.equal (value p r.form)
 

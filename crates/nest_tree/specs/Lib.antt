@@ -10,3 +10,4 @@ pub mod Rewriting
 pub mod Levels
 pub mod Pieces
 pub mod Unrolling
+pub mod Systems
