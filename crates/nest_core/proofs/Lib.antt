@@ -12,3 +12,4 @@ pub mod Kept
 pub mod BodiesKept
 pub mod Ordered
 pub mod Shaped
+pub mod Naming

@@ -4,3 +4,4 @@ pub mod Forms
 pub mod Order
 pub mod Pieces
 pub mod Shapes
+pub mod Terms

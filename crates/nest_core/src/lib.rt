@@ -6,7 +6,9 @@ mod form;
 mod numbers;
 mod order;
 mod rewrite;
+mod terms;
 mod total;
 
 pub use apply::{apply_pieces, make_nests, statements};
 pub use order::{shared_loops, shares_loop};
+pub use terms::{is_held, names, names_inside};
