@@ -53,7 +53,7 @@ bind_at p f ts h (Ok q) l =
     record {
       front = l.front ++ k.front;
       parts = l.parts ∙ ap (λ (z : List Token). l.front ++ z) k.parts ∙ sym (append_assoc l.front k.front (stands (f q.0 q.1)));
-      same = λ x after more e. rw (append_assoc l.front k.front (x ∷ more)) (rw (first_stood p q.0 l.front q.1 (stands (f q.0 q.1)) l.same k.front k.parts x after more e) (k.same x after more e))
+      same = λ x after more e. rw (append_assoc l.front k.front (x ∷ more)) (rw (first_stood p q.0 l.front q.1 (stands (f q.0 q.1)) l.same k.front k.parts x after more e) (k.same x after more e));
     }
 
 pub bind_local : {A B : Type 0} (p : Reader A) (f : A → Reader B) → IsLocal p → ((a : A) → IsLocal (f a)) → IsLocal (p >>= f)
@@ -87,7 +87,7 @@ same_local f g e h ts =
     record {
       front = l.front;
       parts = l.parts ∙ ap (λ o. l.front ++ stands o) (sym (e ts));
-      same = λ x after more s. e (l.front ++ x ∷ more) ∙ l.same x after more (ap stands (sym (e ts)) ∙ s) ∙ ap (λ o. moved o (x ∷ more)) (sym (e ts))
+      same = λ x after more s. e (l.front ++ x ∷ more) ∙ l.same x after more (ap stands (sym (e ts)) ∙ s) ∙ ap (λ o. moved o (x ∷ more)) (sym (e ts));
     }
 
 -- ---- signs, names and numbers
@@ -177,3 +177,26 @@ value_is a b x y e = (ap (value_or a) e, ap stands e)
 
 pub refuse_eats : {A : Type 0} (ts : List Token) → Eats (refuse {A = A}) ts
 refuse_eats ts a after e = absurd cc
+
+-- a choice of which both ways begin with a token
+abbrev pub EatsSome : {A : Type 0} → Outcome A → List Token → Type 0
+EatsSome {A} o ts = (a : A) (after : List Token) → o ≡ Ok (a, after) → length after < length ts
+
+pub cond_eats : {A : Type 0} (b : Bool) (x y : Outcome A) (ts : List Token) → EatsSome x ts → EatsSome y ts → EatsSome (cond b x y) ts
+cond_eats true x y ts p q = p
+cond_eats false x y ts p q = q
+
+pub expect_eager : (s : Sign) → IsEager (expect s)
+unfolding expect
+expect_eager s [] u after e = absurd cc
+expect_eager s (x ∷ ts) u after e = by_test (sees s (x ∷ ts)) e
+  where
+    by_test : (b : Bool) → cond b (got tt ts) (Err (x ∷ ts)) ≡ Ok (u, after) → length after < length (x ∷ ts)
+    by_test true e = let k = (value_is _ _ _ _ e).1 in let l : length ts ≡ length after = ap length k in omega (arith, l)
+    by_test false e = absurd cc
+
+pub name_eager : IsEager name
+unfolding name
+name_eager [] u after e = absurd cc
+name_eager (t.Name x ∷ ts) u after e = let k = (value_is _ _ _ _ e).1 in let l : length ts ≡ length after = ap length k in omega (arith, l)
+name_eager (_ ∷ ts) u after e = absurd cc

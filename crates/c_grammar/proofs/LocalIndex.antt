@@ -18,7 +18,7 @@ use Rattle.c_grammar.proofs.Turns.{IsEating, AreLocal, many_local}
 
 -- ---- further pieces behind one of two signs
 
-some_is : {A : Type 0} {f g : A} → Some f ≡ Some g → f ≡ g
+pub some_is : {A : Type 0} {f g : A} → Some f ≡ Some g → f ≡ g
 some_is e = cc
 
 -- a piece behind a sign eats it

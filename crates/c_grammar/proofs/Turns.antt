@@ -58,7 +58,7 @@ module _ {A : Type 0} (next : A → Option Token → Option (Reader A)) (eats : 
           record {
             front = l.front;
             parts = l.parts;
-            same = λ x after more s. rw (ap (next a) (kept_first ts l.front (stands (and_then (f ts) (turns next n))) x after more l.parts s) ∙ e) (l.same x after more s)
+            same = λ x after more s. rw (ap (next a) (kept_first ts l.front (stands (and_then (f ts) (turns next n))) x after more l.parts s) ∙ e) (l.same x after more s);
           }
 
   pub many_local : AreLocal next → (a : A) → IsLocal (many next a)
@@ -69,14 +69,14 @@ module _ {A : Type 0} (next : A → Option Token → Option (Reader A)) (eats : 
         front = k.front;
         parts = k.parts;
         same = λ x after more e.
-          let new : List Token = k.front ++ x ∷ more in
-          let n : ℕ = suc (length ts + length new) in
-          let enough : turns next n a ts ≡ turns next (suc (length ts)) a ts = turns_enough n (suc (length ts)) a ts (omega arith) (omega arith) in
-          let large = turns_local h n a ts in
-          let stood = ap stands enough in
-          let f : large.front ≡ k.front = append_cancel_right large.front k.front (stands (turns next (suc (length ts)) a ts)) (ap (λ (z : List Token). large.front ++ z) (sym stood) ∙ sym large.parts ∙ k.parts) in
-          turns_enough (suc (length new)) n a new (omega arith) (omega arith)
+            let new : List Token = k.front ++ x ∷ more in
+            let n : ℕ = suc (length ts + length new) in
+            let enough : turns next n a ts ≡ turns next (suc (length ts)) a ts = turns_enough n (suc (length ts)) a ts (omega arith) (omega arith) in
+            let large = turns_local h n a ts in
+            let stood = ap stands enough in
+            let f : large.front ≡ k.front = append_cancel_right large.front k.front (stands (turns next (suc (length ts)) a ts)) (ap (λ (z : List Token). large.front ++ z) (sym stood) ∙ sym large.parts ∙ k.parts) in
+            turns_enough (suc (length new)) n a new (omega arith) (omega arith)
             ∙ ap (λ (z : List Token). turns next n a (z ++ x ∷ more)) (sym f)
             ∙ large.same x after more (stood ∙ e)
-            ∙ ap (λ o. moved o (x ∷ more)) enough
+            ∙ ap (λ o. moved o (x ∷ more)) enough;
       }

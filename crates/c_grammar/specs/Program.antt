@@ -31,9 +31,9 @@ guards = 16
 pub data IsMatrix : List Token → Matrix → List Token → Type 0 where
   matrix : {index col value rows cols count : Word} {after : List Token}
       → IsMatrix
-          (t.Sign s.Pragma ∷ t.Name (codes "sparse") ∷ t.Name (codes "csr") ∷ t.Sign s.Open ∷ t.Name index ∷ t.Sign s.Comma ∷ t.Name col ∷ t.Sign s.Comma
-            ∷ t.Name value ∷ t.Sign s.Comma ∷ t.Name rows ∷ t.Sign s.Comma ∷ t.Name cols ∷ t.Sign s.Comma ∷ t.Name count ∷ t.Sign s.Close ∷ after)
-          (record { index = index; col = col; value = value; rows = rows; cols = cols; count = count }) after
+      (t.Sign s.Pragma ∷ t.Name (codes "sparse") ∷ t.Name (codes "csr") ∷ t.Sign s.Open ∷ t.Name index ∷ t.Sign s.Comma ∷ t.Name col ∷ t.Sign s.Comma
+      ∷ t.Name value ∷ t.Sign s.Comma ∷ t.Name rows ∷ t.Sign s.Comma ∷ t.Name cols ∷ t.Sign s.Comma ∷ t.Name count ∷ t.Sign s.Close ∷ after)
+      (record { index = index; col = col; value = value; rows = rows; cols = cols; count = count }) after
 
 -- any number of matrices
 pub data AreMatrices : List Token → List Matrix → List Token → Type 0 where
@@ -105,17 +105,17 @@ pub data IsItem : ℕ → List Word → List Token → Stmt → List Word → Li
   declaration : {b : ℕ} {names : List Word} {ts after : List Token} {x : Word} {k : Kind} {inner : List Index}
       → IsDeclaration b ts x k inner after → IsItem b names ts (stmt.Declare x k inner) (with_declared k x names) after
 
--- one or more statements and declarations
-pub data AreItems : ℕ → List Word → List Token → List Stmt → List Token → Type 0 where
-  one : {b : ℕ} {names behind : List Word} {ts after : List Token} {x : Stmt} → IsItem b names ts x behind after → AreItems b names ts (x ∷ []) after
-  more : {b : ℕ} {names behind : List Word} {ts us after : List Token} {x : Stmt} {xs : List Stmt}
-      → IsItem b names ts x behind us → AreItems b behind us xs after → AreItems b names ts (x ∷ xs) after
+-- one or more statements and declarations, with the growable index arrays before and behind them
+pub data AreItems : ℕ → List Word → List Token → List Stmt → List Word → List Token → Type 0 where
+  one : {b : ℕ} {names behind : List Word} {ts after : List Token} {x : Stmt} → IsItem b names ts x behind after → AreItems b names ts (x ∷ []) behind after
+  more : {b : ℕ} {names between behind : List Word} {ts us after : List Token} {x : Stmt} {xs : List Stmt}
+      → IsItem b names ts x between us → AreItems b between us xs behind after → AreItems b names ts (x ∷ xs) behind after
 
 -- statements, or an inspector and an executor
 pub data AreSections : ℕ → List Token → List Stmt → List Stmt → List Token → Type 0 where
   alone : {b : ℕ} {ts after : List Token} {xs : List Stmt} → AreStatements executor b loops guards ts xs after → AreSections b ts [] xs after
-  both : {b : ℕ} {ts us after : List Token} {xs ys : List Stmt}
-      → AreItems b [] ts xs (t.Sign s.Pragma ∷ t.Name (codes "sparse") ∷ t.Name (codes "executor") ∷ us)
+  both : {b : ℕ} {ts us after : List Token} {xs ys : List Stmt} {behind : List Word}
+      → AreItems b [] ts xs behind (t.Sign s.Pragma ∷ t.Name (codes "sparse") ∷ t.Name (codes "executor") ∷ us)
       → AreStatements executor b loops guards us ys after
       → AreSections b (t.Sign s.Pragma ∷ t.Name (codes "sparse") ∷ t.Name (codes "inspector") ∷ ts) xs ys after
 

@@ -1,6 +1,7 @@
 -- The grammar of statements. The numbers b, l and g say how many brackets, loops and guards may still be opened
 -- around a place.
-use Rattle.std.specs.Prelude.{◌≡◌, ℕ, suc, Bool, true, false, ◌&&◌, ◌||◌, List, [], ◌∷◌, bytes_eq}
+use Rattle.std.specs.Prelude.{◌≡◌, ℕ, suc, Bool, true, false, ◌&&◌, List, [], ◌∷◌, bytes_eq}
+use Rattle.std.specs.List.{list_any}
 use Rattle.c_tokens.specs.declared.token.Sign.TheVariants as s
 use Rattle.c_tokens.specs.declared.token.Token.{Token}
 use Rattle.c_tokens.specs.declared.token.Token.TheVariants as t
@@ -46,8 +47,7 @@ pub data IsHow : List Token → How → List Token → Type 0 where
 
 -- the name is one of the list
 abbrev pub is_among : List Word → Word → Bool
-is_among [] x = false
-is_among (y ∷ ys) x = bytes_eq y x || is_among ys x
+is_among names x = list_any (λ y. bytes_eq y x) names
 
 -- a growable index array, declared before
 abbrev pub is_growable : Section → Word → Bool
