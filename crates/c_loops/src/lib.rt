@@ -3,6 +3,7 @@
 
 mod halt;
 mod index;
+mod judged;
 mod program;
 mod read;
 mod sections;
@@ -13,4 +14,5 @@ mod tests;
 mod value;
 mod words;
 
+pub use judged::read_program;
 pub use read::{SyntaxAt, read_tree};

@@ -1,6 +1,7 @@
 // Reading a text.
 ghost use Rattle.std.specs.Prelude.{◌≡◌, ◌≤◌, ◌+◌, ◌-◌, length};
 ghost use Rattle.c_tokens.specs.Pieces.{tokens_of};
+ghost use Rattle.c_loops.specs.Text.{tree_of, Tells};
 
 use crate::halt::Halt;
 use crate::program::program;
@@ -26,8 +27,10 @@ fn number(text: &[u8], tokens: &Tokens<'_>) -> usize
 }
 
 /// The tree of a program's text.
-#[tactic(auto, using(crate::proofs::Whole::read_leaves, crate::proofs::Whole::refused_leaves))]
-pub fn read_tree(alloc: Global, text: &[u8]) -> Result<Program, Stop<SyntaxAt>> {
+#[tactic(auto, using(crate::proofs::Whole::read_leaves, crate::proofs::Whole::refused_leaves), unfolding(crate::specs::Text::tree_of))]
+pub fn read_tree(alloc: Global, text: &[u8]) -> Result<Program, Stop<SyntaxAt>>
+    ensures { Tells (tree_of text.now) result }
+{
     let mut tokens = Tokens::new(text);
     let found = program(alloc, &mut tokens);
     match found {
