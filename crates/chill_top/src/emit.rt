@@ -5,7 +5,11 @@ ghost use Rattle.chill_top.specs.Emitting.{emitting};
 ghost use Rattle.chill_top.specs.Refusing.{IfRefused, outcome_of_stop};
 
 use crate::{Outcome, Refusal};
+use c_loops::read_program;
+use c_print::print_program;
 use chill_base::{Files, Sink, Stop, Text, Unread, read_whole, write_all};
+use first_form::renamed;
+use recipe_read::read_recipe;
 use std::alloc::Global;
 
 /// Reads both files, and writes the text that is made of them.
@@ -23,7 +27,7 @@ pub fn run_emit<F: Files, O: Sink>(
         Ok(text) => text,
         Err(why) => return unread(1, why),
     };
-    match judge_recipe(&rules) {
+    match judge_recipe(alloc, rules.as_slice()) {
         Ok(()) => (),
         Err(stop) => return stopped(stop),
     }
@@ -31,7 +35,7 @@ pub fn run_emit<F: Files, O: Sink>(
         Ok(text) => text,
         Err(why) => return unread(2, why),
     };
-    let text = match make(alloc, rules.as_slice(), program.as_slice()) {
+    let text = match emit(alloc, rules.as_slice(), program.as_slice()) {
         Ok(text) => text,
         Err(stop) => return stopped(stop),
     };
@@ -41,23 +45,38 @@ pub fn run_emit<F: Files, O: Sink>(
     }
 }
 
-// PLACEHOLDER
-fn judge_recipe(recipe: &Text) -> Result<(), Stop<Refusal>>
+// A recipe without commands; others aren't built yet.
+fn judge_recipe(alloc: Global, recipe: &[u8]) -> Result<(), Stop<Refusal>>
     ensures ok { OnOk result (emitting.passes recipe.now) }
     ensures refused { IfErr result (IfRefused (emitting.refuses recipe.now)) }
 {
-    if recipe.is_empty() {
-        return Ok(());
+    match read_recipe(alloc, recipe) {
+        Ok(commands) => {
+            if commands.is_empty() {
+                Ok(())
+            } else {
+                Err(Stop::Refused(Refusal::NotYet { file: 1 }))
+            }
+        }
+        Err(Stop::Refused(fault)) => Err(Stop::Refused(Refusal::Recipe(fault))),
+        Err(Stop::NoMemory) => Err(Stop::NoMemory),
     }
-    Err(Stop::Refused(Refusal::NotYet { file: 1 }))
 }
 
-// PLACEHOLDER
-fn make(_alloc: Global, recipe: &[u8], source: &[u8]) -> Result<Text, Stop<Refusal>>
-    ensures ok { IfOk result (λ text. emitting.makes recipe.now source.now text) }
-    ensures refused { IfErr result (IfRefused (emitting.denies recipe.now source.now)) }
+// The text that is written for a source under a recipe without commands.
+fn emit(alloc: Global, _recipe: &[u8], source: &[u8]) -> Result<Text, Stop<Refusal>>
+    ensures ok { IfOk result (λ text. emitting.makes _recipe.now source.now text) }
+    ensures refused { IfErr result (IfRefused (emitting.denies _recipe.now source.now)) }
 {
-    Err(Stop::Refused(Refusal::NotYet { file: 2 }))
+    let program = match read_program(alloc, source) {
+        Ok(program) => program,
+        Err(Stop::Refused(fault)) => return Err(Stop::Refused(Refusal::Program(fault))),
+        Err(Stop::NoMemory) => return Err(Stop::NoMemory),
+    };
+    match renamed(alloc, &program)? {
+        Some(written) => Ok(print_program(alloc, &written)?),
+        None => Err(Stop::Refused(Refusal::NotYet { file: 2 })),
+    }
 }
 
 fn unread(file: u8, why: Unread) -> Outcome

@@ -9,4 +9,4 @@ mod say;
 mod tests;
 
 pub use answer::chill;
-pub use outcome::{Outcome, Refusal};
+pub use outcome::{Outcome, Refusal, status};
