@@ -13,3 +13,6 @@ mod uses;
 
 pub use faults::{LimitWhat, NameWhy, ProgramFault};
 pub use rules::judge;
+
+#[cfg(test)]
+mod tests;
