@@ -43,7 +43,7 @@ module _ (olds : List Aff) (q : List ℤ) where
   both : (f : Ground → Ground → Ground) (x y z w : Ground) → x ≡ z → y ≡ w → f x y ≡ f z w
   both f x y z w e g = ap (λ (u : Ground). f u y) e ∙ ap (λ (u : Ground). f z u) g
 
-  same_ground : (a b : Body) → SaysBody olds a b → ground q b ≡ ground (map (value q) olds) a
+  pub same_ground : (a b : Body) → SaysBody olds a b → ground q b ≡ ground (map (value q) olds) a
   same_ground _ _ (const c) = ground-Const q c ∙ sym (ground-Const (map (value q) olds) c)
   same_ground _ _ (at a b h) = ground-At q b ∙ ap load (same_spot_named a b h) ∙ sym (ground-At (map (value q) olds) a)
   same_ground _ _ (plus a b c d h k) = ground-Plus q c d ∙ both sum _ _ _ _ (same_ground a c h) (same_ground b d k) ∙ sym (ground-Plus (map (value q) olds) a b)

@@ -102,7 +102,7 @@ replaced_body_layer olds (Plus-F a b) = Plus a b
 replaced_body_layer olds (Minus-F a b) = Minus a b
 replaced_body_layer olds (Times-F a b) = Times a b
 
-replaced_body : List Aff → Body → Body
+pub replaced_body : List Aff → Body → Body
 replaced_body olds = fold-Body Body (replaced_body_layer olds)
 
 body_at : (olds : List Aff) (b : Body) (d : Body-F Body) → out-Body b ≡ d → replaced_body olds b ≡ replaced_body_layer olds (map-Body Body Body (replaced_body olds) d)
@@ -129,6 +129,19 @@ module _ (olds : List Aff) where
 
   says_body : (b : Body) → Says olds b
   says_body = ind-Body (Says olds) (λ x y e. subst (λ d. Says olds (roll-Body d)) e (says_layer (λ e. e.0) (λ e. e.1) y))
+
+-- the statement with replaced variables; the levels for which its rows were made don't matter here
+abbrev pub made_nest : ℕ → Nest → Piece → Nest
+made_nest params n p = record {
+  levels = p.levels;
+  positions = p.positions;
+  terms = map (λ t. record { array = t.array; at = map (replaced (variables_of params n p)) t.at }) n.terms;
+  rows = map (λ r. record { row = replaced_row (variables_of params n p) r.row; own = r.own }) n.rows ++ p.rows;
+  target = record { array = (n.target).array; at = map (replaced (variables_of params n p)) (n.target).at };
+  how = n.how;
+  value = replaced_body (variables_of params n p) n.value;
+  whole = None;
+}
 
 module _ (params : ℕ) (n : Nest) (p : Piece) (wide : IsWide params n) (fits : FitsWide params n p) where
   -- the coefficient of a term stays
@@ -170,31 +183,22 @@ module _ (params : ℕ) (n : Nest) (p : Piece) (wide : IsWide params n) (fits : 
   says_rows [] h = tt
   says_rows (r ∷ rs) h = (record { equal = refl; form = says_form (r.row).form (h r (inl refl)) }, says_rows rs (λ s a. h s (inr a)))
 
-  -- the statement with replaced variables; the levels for which its rows were made don't matter here
+  pub rewritten-made : IsRewritten params (record { old = n; piece = p; new = made_nest params n p })
+  rewritten-made =
+      record {
+        old_shape = wide.shape;
+        new_shape = fits.shape;
+        forms = fits.forms;
+        no_terms = fits.no_terms;
+        positions = refl;
+        terms = says_terms n.terms wide.terms;
+        target = says_access (variables_of params n p) n.target;
+        how = refl;
+        body = says_body (variables_of params n p) n.value;
+        kept = map (λ r. record { row = replaced_row (variables_of params n p) r.row; own = r.own }) n.rows;
+        says = says_rows n.rows wide.rows;
+        rows = refl;
+      }
+
   pub made-rewritten : (new : Nest) × IsRewritten params (record { old = n; piece = p; new = new })
-  made-rewritten = (
-    record {
-      levels = p.levels;
-      positions = p.positions;
-      terms = map (λ t. record { array = t.array; at = map (replaced (variables_of params n p)) t.at }) n.terms;
-      rows = map (λ r. record { row = replaced_row (variables_of params n p) r.row; own = r.own }) n.rows ++ p.rows;
-      target = record { array = (n.target).array; at = map (replaced (variables_of params n p)) (n.target).at };
-      how = n.how;
-      value = replaced_body (variables_of params n p) n.value;
-      whole = None;
-    },
-    record {
-      old_shape = wide.shape;
-      new_shape = fits.shape;
-      forms = fits.forms;
-      no_terms = fits.no_terms;
-      positions = refl;
-      terms = says_terms n.terms wide.terms;
-      target = says_access (variables_of params n p) n.target;
-      how = refl;
-      body = says_body (variables_of params n p) n.value;
-      kept = map (λ r. record { row = replaced_row (variables_of params n p) r.row; own = r.own }) n.rows;
-      says = says_rows n.rows wide.rows;
-      rows = refl;
-    },
-  )
+  made-rewritten = (made_nest params n p, rewritten-made)
