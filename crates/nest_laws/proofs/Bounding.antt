@@ -1,5 +1,5 @@
 -- The law of bounds in the form in which a function of this crate states it.
-use Rattle.std.proofs.Common.{◌≡◌, ℕ, suc, List, sym, ◌∙◌, ap, subst, ℤ, pos, negsuc, ◌+ℤ◌, ◌*ℤ◌, ◌≤ℤ◌, length}
+use Rattle.std.proofs.Common.{sym, ◌∙◌, ap, subst, ℤ, pos, ◌+ℤ◌, ◌*ℤ◌, ◌≤ℤ◌}
 use Rattle.nest_tree.specs.Forms.{value, coef}
 use Rattle.nest_tree.specs.Terms.{with_terms}
 use Rattle.nest_laws.specs.BoundLaws.{DirectRowBoundsLevel}

@@ -1,15 +1,13 @@
 -- Assignments that conflict name one cell by conflicting accesses.
-use Rattle.std.proofs.Common.{◌≡◌, ◌⊎◌, inl, inr, ℕ, zero, suc, ◌≤◌, Bool, true, false, not, ◌&&◌, ◌||◌, IsTrue, List, [], ◌∷◌, ◌++◌, map, take, length, refl, sym, ◌∙◌, ap, subst, arith, ℤ, pos}
-use Rattle.c_tree.specs.declared.statement.How.{How}
+use Rattle.std.proofs.Common.{◌≡◌, ◌⊎◌, inl, inr, ℕ, Bool, true, false, ◌&&◌, ◌||◌, List, [], ◌∷◌, ◌++◌, refl, sym, ◌∙◌, ap, subst, ℤ}
 use Rattle.c_meaning.specs.Memory.{Spot, same_spot}
-use Rattle.c_meaning.specs.Ground.{Ground, number, load, sum, difference, product, Step, reads, is_among, conflicts}
+use Rattle.c_meaning.specs.Ground.{Ground, number, reads, is_among, conflicts}
 use Rattle.c_meaning.proofs.Spots.{spot_is, spot_self}
 use Rattle.nest_tree.specs.declared.kernel.Nest.{Nest}
 use Rattle.nest_tree.specs.declared.body.Access.{Access}
 use Rattle.nest_tree.specs.declared.body.Body.{Body, ind-Body, roll-Body, map-Body}
-use Rattle.nest_tree.specs.declared.body.Body.TheVariants.{Const, At, Plus, Minus, Times, rolls-Const, rolls-At, rolls-Plus, rolls-Minus, rolls-Times}
+use Rattle.nest_tree.specs.declared.body.Body.TheVariants.{Const, At, rolls-Const, rolls-At, rolls-Plus, rolls-Minus, rolls-Times}
 use Rattle.nest_tree.specs.declared.body.Body.TheOpen.{Body-F, Const as Const-F, At as At-F, Plus as Plus-F, Minus as Minus-F, Times as Times-F}
-use Rattle.nest_tree.specs.Forms.{value}
 use Rattle.nest_tree.specs.Systems.{IsRead, here, plus_left, plus_right, minus_left, minus_right, times_left, times_right, Clash, target_read, read_target, targets}
 use Rattle.nest_laws.specs.Acts.{spot, ground, act}
 use Rattle.nest_laws.proofs.Acts.{ground-Const, ground-At, ground-Plus, ground-Minus, ground-Times}

@@ -5,7 +5,7 @@ use lib.IntN.{zero-*ℤ, *ℤ-zero}
 use Rattle.int_rows.specs.declared.row.Aff.{Aff}
 use Rattle.int_rows.specs.declared.row.Row.{Row}
 use Rattle.int_rows.specs.Rows.{dot, Holds}
-use Rattle.nest_tree.specs.Forms.{value, MeetsRow, Meets, added, sum, times, less, combined, replaced, replaced_row, zeros, variables}
+use Rattle.nest_tree.specs.Forms.{value, Meets, added, sum, times, less, combined, replaced, replaced_row, zeros, variables}
 use Rattle.chill_base.proofs.Ring.{sum_times, times_sum, times_assoc}
 
 dot-none : (cs : List ℤ) → dot cs [] ≡ pos 0

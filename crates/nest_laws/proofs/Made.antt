@@ -1,7 +1,7 @@
 -- Each statement has a rewritten one for each piece that fits: each variable is replaced by its form.
-use Rattle.std.proofs.Common.{◌≡◌, ◌⊎◌, inl, inr, ℕ, zero, suc, ◌+◌, ◌≤◌, ◌<◌, List, [], ◌∷◌, ◌++◌, map, length, drop, refl, sym, ◌∙◌, ap, subst, arith, ℤ, pos, ◌+ℤ◌, ◌*ℤ◌, append_assoc, length-append}
+use Rattle.std.proofs.Common.{◌≡◌, inl, inr, ℕ, zero, suc, ◌+◌, ◌≤◌, ◌<◌, List, [], ◌∷◌, ◌++◌, map, length, drop, refl, sym, ◌∙◌, ap, subst, arith, ℤ, pos, ◌*ℤ◌, append_assoc, length-append}
 use Rattle.std.proofs.lemmas.Int.{ints}
-use lib.IntN.{*ℤ-zero, zero-*ℤ}
+use lib.IntN.{*ℤ-zero}
 use Rattle.int_rows.specs.declared.row.Aff.{Aff}
 use Rattle.nest_tree.specs.declared.kernel.Nest.{Nest}
 use Rattle.nest_tree.specs.declared.kernel.Term.{Term}
@@ -11,16 +11,13 @@ use Rattle.nest_tree.specs.declared.body.Body.{Body, fold-Body, fold_out-Body, m
 use Rattle.nest_tree.specs.declared.body.Body.TheVariants.{Const, At, Plus, Minus, Times, outs-Const, outs-At, outs-Plus, outs-Minus, outs-Times, rolls-Const, rolls-At, rolls-Plus, rolls-Minus, rolls-Times}
 use Rattle.nest_tree.specs.declared.body.Body.TheOpen.{Body-F, Const as Const-F, At as At-F, Plus as Plus-F, Minus as Minus-F, Times as Times-F}
 use Rattle.nest_tree.specs.declared.moves.Piece.{Piece}
-use Rattle.nest_tree.specs.declared.form.Form.{Form}
 use Rattle.std.specs.Prelude.{None}
 use Rattle.nest_tree.specs.Lists.{IsIn, Pairwise}
 use Rattle.int_rows.specs.Rows.{dot}
-use Rattle.nest_tree.specs.Forms.{value, coef, Names, combined, replaced, replaced_row, times, zeros, variables}
-use Rattle.nest_tree.specs.Moving.{Move}
-use Rattle.nest_tree.specs.Rewriting.{variables_of, HasValue, SaysForm, SaysTerm, SaysRow, SaysAccess, SaysBody, const, at, plus, minus, times as times_says, NamesNoTerm, IsRewritten, AreWithin, IsWide, FitsWide}
+use Rattle.nest_tree.specs.Forms.{coef, combined, replaced, replaced_row, times, zeros, variables}
+use Rattle.nest_tree.specs.Rewriting.{variables_of, HasValue, SaysForm, SaysTerm, SaysRow, SaysAccess, SaysBody, const, at, plus, minus, times as times_says, IsRewritten, AreWithin, IsWide, FitsWide}
 use Rattle.nest_laws.proofs.Lists.{in_append, map-append}
 use Rattle.nest_laws.proofs.Forms.{value-replaced}
-use Rattle.nest_laws.proofs.Points.{length-map}
 use Rattle.nest_laws.proofs.Narrow.{coef-added, coef-scaled, coef-zeros, narrow-variables}
 
 -- the coefficient of a variable in a form with replaced variables

@@ -1,13 +1,12 @@
 -- The laws of runs in the form in which the functions of this crate state them.
-use Rattle.std.proofs.Common.{◌≡◌, ℕ, List, [], ◌∷◌, map, refl, sym, ◌∙◌, ap, subst, Bool, IsTrue}
+use Rattle.std.proofs.Common.{◌≡◌, List, [], sym, ◌∙◌, ap, subst}
 use Rattle.c_meaning.specs.Ground.{Step}
 use Rattle.nest_tree.specs.declared.kernel.Nest.{Nest}
-use Rattle.nest_tree.specs.Lists.{IsIn}
-use Rattle.nest_tree.specs.Places.{place, IsInstance, Item, Precedes}
+use Rattle.nest_tree.specs.Places.{place, IsInstance, Item}
 use Rattle.nest_tree.specs.Terms.{Input}
-use Rattle.nest_tree.specs.Kernels.{point, item_at, IsPointOf, IsItemOf, IsKernelList}
-use Rattle.nest_tree.specs.Loops.{Levels, Loops, performed}
-use Rattle.nest_tree.specs.Scans.{Slot, Maker, IsScan, IsSoundMaker, IsPoint}
+use Rattle.nest_tree.specs.Kernels.{point, item_at, IsItemOf}
+use Rattle.nest_tree.specs.Loops.{Levels}
+use Rattle.nest_tree.specs.Scans.{Slot, Maker, IsPoint}
 use Rattle.nest_laws.specs.Acts.{act}
 use Rattle.nest_laws.specs.Trees.{without_faults, tree_of}
 use Rattle.nest_laws.specs.RunLaws.{ExecutorPerformsItsLoops, LeavesTellPerformed, MeetsRows, slots_of, ScanHasKernelList}

@@ -1,22 +1,21 @@
 -- An instance of the law of the dependence test: the shifted loop `y[i] = 1`, whose one system is excluded.
-use Rattle.std.proofs.Common.{◌≡◌, ◌⊎◌, inl, inr, ℕ, zero, suc, ◌≤◌, ◌<◌, Bool, true, false, List, [], ◌∷◌, length, refl, sym, ◌∙◌, ap, subst, arith, ℤ, pos, Ok}
+use Rattle.std.proofs.Common.{◌≡◌, inl, inr, zero, suc, true, List, [], ◌∷◌, length, refl, sym, ◌∙◌, ap, subst, arith, ℤ, Ok}
 use Rattle.std.proofs.lemmas.Int.{ints}
 use Rattle.int_rows.specs.declared.row.Row.{Row}
-use Rattle.int_rows.specs.Systems.{Rows, excluded}
+use Rattle.int_rows.specs.Systems.{excluded}
 use Rattle.int_rows.specs.Exclusion.{exclusion, is_impossible}
 use Rattle.int_rows.specs.Elimination.{elimination, made as rows_made, paired, canceled, outcome, reduced, merged, made_small}
 use Rattle.int_rows.specs.Gcd.{gcd, gcd_of}
 use Rattle.c_meaning.specs.Memory.{Cells}
-use Rattle.c_meaning.specs.Ground.{Step, number}
+use Rattle.c_meaning.specs.Ground.{Step}
 use Rattle.nest_tree.specs.declared.body.Access.{Access}
-use Rattle.nest_tree.specs.Lists.{IsIn}
-use Rattle.nest_tree.specs.Places.{Item, IsTextBefore}
+use Rattle.nest_tree.specs.Places.{Item}
 use Rattle.nest_tree.specs.Carriers.{Carrier, loop, text, IsListed}
 use Rattle.nest_tree.specs.Kernels.{IsKernelList}
 use Rattle.nest_tree.specs.Moving.{Move, StandsFor}
-use Rattle.nest_tree.specs.Rewriting.{old_variables, IsRewritten}
+use Rattle.nest_tree.specs.Rewriting.{old_variables}
 use Rattle.nest_tree.specs.Systems.{Clash, target_read, read_target, targets, IsRead, Pair, system, variables_count}
-use Rattle.nest_laws.specs.Acts.{act, ground}
+use Rattle.nest_laws.specs.Acts.{act}
 use Rattle.nest_laws.specs.ListLaws.{effect_of}
 use Rattle.nest_laws.specs.SystemLaws.{IsTested}
 use Rattle.nest_laws.proofs.Acts.{same_ground, ground-Const}

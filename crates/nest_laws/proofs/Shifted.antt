@@ -1,8 +1,6 @@
 -- An instance of the laws of moved lists: `y[i] = 1` for i from 0 to below n, shifted by 5. All premises of the laws are met.
-use Rattle.std.proofs.Common.{◌≡◌, ◌⊎◌, inl, inr, ℕ, zero, suc, List, [], ◌∷◌, length, refl, sym, ◌∙◌, ap, subst, arith, ℤ, pos, negsuc, ◌≤◌}
+use Rattle.std.proofs.Common.{◌≡◌, inl, inr, List, [], ◌∷◌, length, refl, sym, ◌∙◌, ap, subst, arith, ℤ, pos, negsuc, ◌≤◌}
 use Rattle.std.specs.Prelude.{None, false}
-use Rattle.std.proofs.lemmas.Int.{ints}
-use Rattle.int_rows.specs.declared.row.Aff.{Aff}
 use Rattle.c_tree.specs.declared.statement.How.TheVariants.{Write}
 use Rattle.nest_tree.specs.declared.kernel.Nest.{Nest}
 use Rattle.nest_tree.specs.declared.kernel.KernelRow.{KernelRow}
@@ -12,12 +10,12 @@ use Rattle.nest_tree.specs.declared.form.Form.TheVariants.{Other}
 use Rattle.nest_tree.specs.Lists.{IsIn}
 use Rattle.nest_tree.specs.Places.{Item}
 use Rattle.nest_tree.specs.Effects.{IsMoved}
-use Rattle.nest_tree.specs.Forms.{coef, variables}
+use Rattle.nest_tree.specs.Forms.{variables}
 use Rattle.nest_tree.specs.Terms.{Input}
 use Rattle.nest_tree.specs.Kernels.{IsKernelList, AreDistinct}
 use Rattle.nest_tree.specs.Moving.{Move, Goes, IsMovedList, IsMade, ArePieces, IsOneToOne, StandsFor}
-use Rattle.nest_tree.specs.Rewriting.{IsWide, FitsWide, IsRewritten, NamesNoTerm}
-use Rattle.nest_tree.specs.Pieces.{IsLike, HasForms, IsShiftedPiece, unshifted_forms}
+use Rattle.nest_tree.specs.Rewriting.{IsWide, FitsWide, IsRewritten}
+use Rattle.nest_tree.specs.Pieces.{IsShiftedPiece, unshifted_forms}
 use Rattle.c_meaning.specs.Ground.{Step}
 use Rattle.nest_laws.specs.Acts.{act}
 use Rattle.nest_laws.proofs.Made.{made_nest, rewritten-made}

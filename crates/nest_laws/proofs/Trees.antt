@@ -1,5 +1,5 @@
 -- An executor's listing is that of its tree, and where nothing that is reached has a fault it is the list of its loops.
-use Rattle.std.proofs.Common.{◌≡◌, ℕ, zero, suc, ◌+◌, ◌<◌, List, [], ◌∷◌, ◌++◌, map, length, refl, sym, ◌∙◌, ap, subst, arith, ℤ, pos, negsuc, ◌+ℤ◌, ◌-ℤ◌, ◌≤ℤ◌, ◌<ℤ◌, Bool, true, false, if◌then◌else◌, Option, Some, None, append_assoc, append-nil}
+use Rattle.std.proofs.Common.{◌≡◌, ℕ, zero, suc, ◌+◌, List, [], ◌∷◌, ◌++◌, map, length, refl, sym, ◌∙◌, ap, arith, ℤ, pos, negsuc, ◌+ℤ◌, ◌-ℤ◌, ◌≤ℤ◌, ◌<ℤ◌, Bool, true, false, if◌then◌else◌, Option, Some, None, append_assoc, append-nil}
 use Rattle.std.specs.List.{AllByRecursion}
 use Rattle.std.proofs.lemmas.Int.{ints}
 use Rattle.c_tree.specs.declared.index.Cell.{Cell}
@@ -16,7 +16,7 @@ use Rattle.c_meaning.specs.Ground.{Step}
 use Rattle.c_meaning.specs.Listing as listing
 use Rattle.c_meaning.specs.Listing.{Scene, bind, assigned, Trouble, Listing, nothing, after, performs, given, ◌⨾◌, above_zero, Part, part, sequence, widths}
 use Rattle.c_meaning.proofs.Parts.{listed-For, listed-If, listed-Assign, listed-Put, listed-Declare, listed-Grow}
-use Rattle.c_meaning.proofs.Induction.{Cases, induct, induct_all}
+use Rattle.c_meaning.proofs.Induction.{induct_all}
 use Rattle.nest_tree.specs.Places.{Item}
 use Rattle.nest_tree.specs.Loops.{Levels, Loops, width, performed, inside}
 use Rattle.nest_tree.specs.Loops as loops

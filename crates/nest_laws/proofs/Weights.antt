@@ -1,17 +1,16 @@
 -- An expression of a small size has its value.
-use Rattle.std.proofs.Common.{◌≡◌, ◌⊎◌, inl, inr, ℕ, zero, suc, ◌+◌, ◌*◌, ◌≤◌, max, List, [], ◌∷◌, refl, sym, ◌∙◌, ap, subst, arith, ℤ, pos, negsuc, ◌+ℤ◌, ◌-ℤ◌, ◌*ℤ◌, neg_ℤ, ◌≤ℤ◌, ◌<ℤ◌, unsigned_abs, true, Option, Some, Ok, mul-le-mul_left}
-use Rattle.std.specs.Prelude.{nat_le, if◌then◌else◌}
+use Rattle.std.proofs.Common.{◌≡◌, ◌⊎◌, inl, inr, ℕ, zero, suc, ◌+◌, ◌*◌, ◌≤◌, max, List, [], ◌∷◌, refl, ◌∙◌, ap, arith, ℤ, pos, negsuc, ◌+ℤ◌, ◌-ℤ◌, ◌*ℤ◌, neg_ℤ, ◌≤ℤ◌, ◌<ℤ◌, unsigned_abs, true, Some, Ok, mul-le-mul_left}
+use Rattle.std.specs.Prelude.{nat_le}
 use Rattle.std.specs.Int.{int_min, int_max, int_div_euclid}
 use Rattle.std.proofs.lemmas.Int.{ints, clamps, unsigned_abs-mul}
 use Rattle.chill_base.proofs.Ring.{not_negative_product, sum_times, expand}
 use Rattle.c_tree.specs.declared.index.Index.{Index}
-use Rattle.c_tree.specs.declared.index.Cell.{Cell}
 use Rattle.c_tree.specs.declared.index.Subscripts.{Subscripts}
-use Rattle.c_tree.specs.declared.index.Index.TheVariants.{Const, Var, At, Neg, Plus, Minus, Times, Min, Max, Floor, Ceil}
+use Rattle.c_tree.specs.declared.index.Index.TheVariants.{At, Neg, Plus, Minus, Times, Min, Max, Floor, Ceil}
 use Rattle.c_tree.specs.declared.index.Subscripts.TheVariants.{One, Two, Three}
 use Rattle.c_meaning.specs.Names.{Name}
-use Rattle.c_meaning.specs.Weighed.{Weighed, greatest, plain, negated, sum_of, difference_of, multiple_of, lesser_of, greater_of, floor_of, ceil_of}
-use Rattle.c_meaning.specs.Value.{Sight, Answer, ◌>>=◌, judged, held, plain_answer, three_answers, on_one, on_two, cell_seen, measure, subscripts_of, cell_value, value_of}
+use Rattle.c_meaning.specs.Weighed.{Weighed, greatest, negated, sum_of, difference_of, multiple_of, lesser_of, greater_of, floor_of, ceil_of}
+use Rattle.c_meaning.specs.Value.{Sight, Answer, ◌>>=◌, judged, held, plain_answer, three_answers, on_one, on_two, cell_seen, measure, subscripts_of, value_of}
 use Rattle.c_meaning.proofs.Equations.{cell_value_is, measure-Const, measure-Var, measure-At, measure-Neg, measure-Plus, measure-Minus, measure-Times, measure-Min, measure-Max, measure-Floor, measure-Ceil, subscripts-One, subscripts-Two, subscripts-Three}
 use Rattle.nest_tree.specs.Levels.{IsInTile}
 use Rattle.nest_laws.specs.Weights.{Sizes, KeepsTo, HasSize, const, name, one, two, three, neg, plus, minus, times, lesser, greater, floor, ceil, SmallExpressionHasValue}

@@ -1,5 +1,5 @@
 -- Laws of runs: an executor without faults performs the list of its loops, and the loops that scan a kernel have the kernel's list.
-use Rattle.std.specs.Prelude.{◌≡◌, ℕ, Bool, IsTrue, List, [], ◌++◌, map, Option, None}
+use Rattle.std.specs.Prelude.{◌≡◌, ℕ, Bool, IsTrue, List, [], ◌++◌, map, None}
 use Rattle.c_tree.specs.declared.statement.Stmt.{Stmt}
 use Rattle.c_meaning.specs.Ground.{Step}
 use Rattle.c_meaning.specs.Listing as listing

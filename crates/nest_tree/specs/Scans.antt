@@ -1,5 +1,5 @@
 -- The leaves of a tree with the loops and guards around them, and the trees that scan a list of statements.
-use Rattle.std.specs.Prelude.{◌≡◌, ℕ, suc, ◌+◌, List, [], ◌∷◌, ◌++◌, map, ℤ, pos, ◌≤ℤ◌, ◌<ℤ◌, Bool, true, IsTrue}
+use Rattle.std.specs.Prelude.{◌≡◌, ℕ, suc, ◌+◌, List, [], ◌∷◌, ◌++◌, map, ℤ, ◌≤ℤ◌, ◌<ℤ◌, Bool, true, IsTrue}
 use Rattle.nest_tree.specs.Lists.{IsIn}
 use Rattle.nest_tree.specs.Places.{place, IsInstance, Item}
 use Rattle.nest_tree.specs.Loops.{Levels, Loops, stop, assign, loop, guard, width}
