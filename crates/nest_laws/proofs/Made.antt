@@ -21,7 +21,7 @@ use Rattle.nest_laws.proofs.Forms.{value-replaced}
 use Rattle.nest_laws.proofs.Narrow.{coef-added, coef-scaled, coef-zeros, narrow-variables}
 
 -- the coefficient of a variable in a form with replaced variables
-coef-combined : (x : ℕ) (cs : List ℤ) (fs : List Aff) (n : ℤ) → coef x (combined cs fs n).coefs ≡ dot cs (map (λ f. coef x f.coefs) fs)
+pub coef-combined : (x : ℕ) (cs : List ℤ) (fs : List Aff) (n : ℤ) → coef x (combined cs fs n).coefs ≡ dot cs (map (λ f. coef x f.coefs) fs)
 coef-combined x [] fs n = refl
 coef-combined x (c ∷ cs) [] n = refl
 coef-combined x (c ∷ cs) (f ∷ fs) n =
@@ -35,7 +35,7 @@ length-drop zero cs k h = omega (arith, h)
 length-drop (suc n) [] k h = omega arith
 length-drop (suc n) (c ∷ cs) k h = length-drop n cs k (omega (arith, h))
 
-coef-drop : (n k : ℕ) (cs : List ℤ) → coef k (drop n cs) ≡ coef (n + k) cs
+pub coef-drop : (n k : ℕ) (cs : List ℤ) → coef k (drop n cs) ≡ coef (n + k) cs
 coef-drop zero k cs = let e : k ≡ 0 + k = omega arith in ap (λ (j : ℕ). coef j cs) e
 coef-drop (suc n) k [] = refl
 coef-drop (suc n) k (c ∷ cs) = let e : suc (n + k) ≡ suc n + k = omega arith in coef-drop n k cs ∙ ap (λ (j : ℕ). coef j (c ∷ cs)) e
