@@ -1,17 +1,16 @@
 -- A rewritten statement does at a point what the old one does at the old variables' values.
-use Rattle.std.proofs.Common.{◌≡◌, ℕ, ◌+◌, List, map, length, refl, sym, ◌∙◌, ap, ℤ}
+use Rattle.std.proofs.Common.{◌≡◌, ℕ, List, map, sym, ◌∙◌, ap, ℤ}
 use Rattle.int_rows.specs.declared.row.Aff.{Aff}
 use Rattle.c_tree.specs.declared.statement.How.{How}
 use Rattle.nest_tree.specs.declared.body.Access.{Access}
-use Rattle.nest_tree.specs.declared.body.Body.{Body, fold-Body, fold_out-Body, map-Body, out-Body}
+use Rattle.nest_tree.specs.declared.body.Body.{Body, fold_out-Body, map-Body, out-Body}
 use Rattle.nest_tree.specs.declared.body.Body.TheVariants.{Const, At, Plus, Minus, Times, outs-Const, outs-At, outs-Plus, outs-Minus, outs-Times}
 use Rattle.nest_tree.specs.declared.body.Body.TheOpen.{Body-F}
-use Rattle.nest_tree.specs.Lists.{Pairwise}
 use Rattle.nest_tree.specs.Forms.{value}
 use Rattle.nest_tree.specs.Moving.{Move}
 use Rattle.nest_tree.specs.Rewriting.{old_variables, HasValue, SaysAccess, SaysBody, const, at, plus, minus, times, IsRewritten}
 use Rattle.c_meaning.specs.Memory.{Spot}
-use Rattle.c_meaning.specs.Ground.{Ground, number, load, sum, difference, product, Step}
+use Rattle.c_meaning.specs.Ground.{Ground, number, load, sum, difference, product}
 use Rattle.nest_laws.specs.Acts.{three, spot, ground_layer, ground, act}
 use Rattle.nest_laws.proofs.Lists.{pairs-map}
 
@@ -43,7 +42,7 @@ module _ (olds : List Aff) (q : List ℤ) where
   both : (f : Ground → Ground → Ground) (x y z w : Ground) → x ≡ z → y ≡ w → f x y ≡ f z w
   both f x y z w e g = ap (λ (u : Ground). f u y) e ∙ ap (λ (u : Ground). f z u) g
 
-  same_ground : (a b : Body) → SaysBody olds a b → ground q b ≡ ground (map (value q) olds) a
+  pub same_ground : (a b : Body) → SaysBody olds a b → ground q b ≡ ground (map (value q) olds) a
   same_ground _ _ (const c) = ground-Const q c ∙ sym (ground-Const (map (value q) olds) c)
   same_ground _ _ (at a b h) = ground-At q b ∙ ap load (same_spot_named a b h) ∙ sym (ground-At (map (value q) olds) a)
   same_ground _ _ (plus a b c d h k) = ground-Plus q c d ∙ both sum _ _ _ _ (same_ground a c h) (same_ground b d k) ∙ sym (ground-Plus (map (value q) olds) a b)

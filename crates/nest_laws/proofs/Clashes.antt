@@ -1,15 +1,13 @@
 -- Assignments that conflict name one cell by conflicting accesses.
-use Rattle.std.proofs.Common.{◌≡◌, ◌⊎◌, inl, inr, ℕ, zero, suc, ◌≤◌, Bool, true, false, not, ◌&&◌, ◌||◌, IsTrue, List, [], ◌∷◌, ◌++◌, map, take, length, refl, sym, ◌∙◌, ap, subst, arith, ℤ, pos}
-use Rattle.c_tree.specs.declared.statement.How.{How}
+use Rattle.std.proofs.Common.{◌≡◌, ◌⊎◌, inl, inr, ℕ, Bool, true, false, ◌&&◌, ◌||◌, List, [], ◌∷◌, ◌++◌, refl, sym, ◌∙◌, ap, subst, ℤ}
 use Rattle.c_meaning.specs.Memory.{Spot, same_spot}
-use Rattle.c_meaning.specs.Ground.{Ground, number, load, sum, difference, product, Step, reads, is_among, conflicts}
-use Rattle.c_meaning.proofs.Spots.{spot_is}
+use Rattle.c_meaning.specs.Ground.{Ground, number, reads, is_among, conflicts}
+use Rattle.c_meaning.proofs.Spots.{spot_is, spot_self}
 use Rattle.nest_tree.specs.declared.kernel.Nest.{Nest}
 use Rattle.nest_tree.specs.declared.body.Access.{Access}
 use Rattle.nest_tree.specs.declared.body.Body.{Body, ind-Body, roll-Body, map-Body}
-use Rattle.nest_tree.specs.declared.body.Body.TheVariants.{Const, At, Plus, Minus, Times, rolls-Const, rolls-At, rolls-Plus, rolls-Minus, rolls-Times}
+use Rattle.nest_tree.specs.declared.body.Body.TheVariants.{Const, At, rolls-Const, rolls-At, rolls-Plus, rolls-Minus, rolls-Times}
 use Rattle.nest_tree.specs.declared.body.Body.TheOpen.{Body-F, Const as Const-F, At as At-F, Plus as Plus-F, Minus as Minus-F, Times as Times-F}
-use Rattle.nest_tree.specs.Forms.{value}
 use Rattle.nest_tree.specs.Systems.{IsRead, here, plus_left, plus_right, minus_left, minus_right, times_left, times_right, Clash, target_read, read_target, targets}
 use Rattle.nest_laws.specs.Acts.{spot, ground, act}
 use Rattle.nest_laws.proofs.Acts.{ground-Const, ground-At, ground-Plus, ground-Minus, ground-Times}
@@ -76,3 +74,29 @@ clash_of n m q p h =
         | inr l ↦ (let r = read_by q (spot p m.target) n.value l in (r.0, m.target, read_target r.0 r.1 (ap (λ (x : Spot). x.array) (sym r.2)), sym r.2))
       ]
     ]
+
+-- ---- an access of the right side is read
+or_right : (p q : Bool) → q ≡ true → (p || q) ≡ true
+or_right true q e = refl
+or_right false q e = e
+
+append_among-left : (x : Spot) (ys zs : List Spot) → is_among x ys ≡ true → is_among x (ys ++ zs) ≡ true
+append_among-left x [] zs h = absurd cc
+append_among-left x (y ∷ ys) zs h = elim (or_parts (same_spot x y) (is_among x ys) h) [ inl a ↦ ap (λ b. b || is_among x (ys ++ zs)) a | inr b ↦ or_right (same_spot x y) (is_among x (ys ++ zs)) (append_among-left x ys zs b) ]
+
+append_among-right : (x : Spot) (ys zs : List Spot) → is_among x zs ≡ true → is_among x (ys ++ zs) ≡ true
+append_among-right x [] zs h = h
+append_among-right x (y ∷ ys) zs h = or_right (same_spot x y) (is_among x (ys ++ zs)) (append_among-right x ys zs h)
+
+pub access_read : (q : List ℤ) (a : Access) (b : Body) → IsRead a b → is_among (spot q a) (reads (ground q b)) ≡ true
+access_read q a _ here = ap (λ (e : Ground). is_among (spot q a) (reads e)) (ground-At q a) ∙ ap (λ b. b || false) (spot_self (spot q a))
+access_read q a _ (plus_left x y h) = ap (λ (e : Ground). is_among (spot q a) (reads e)) (ground-Plus q x y) ∙ append_among-left (spot q a) (reads (ground q x)) (reads (ground q y)) (access_read q a x h)
+access_read q a _ (plus_right x y h) = ap (λ (e : Ground). is_among (spot q a) (reads e)) (ground-Plus q x y) ∙ append_among-right (spot q a) (reads (ground q x)) (reads (ground q y)) (access_read q a y h)
+access_read q a _ (minus_left x y h) = ap (λ (e : Ground). is_among (spot q a) (reads e)) (ground-Minus q x y) ∙ append_among-left (spot q a) (reads (ground q x)) (reads (ground q y)) (access_read q a x h)
+access_read q a _ (minus_right x y h) = ap (λ (e : Ground). is_among (spot q a) (reads e)) (ground-Minus q x y) ∙ append_among-right (spot q a) (reads (ground q x)) (reads (ground q y)) (access_read q a y h)
+access_read q a _ (times_left x y h) = ap (λ (e : Ground). is_among (spot q a) (reads e)) (ground-Times q x y) ∙ append_among-left (spot q a) (reads (ground q x)) (reads (ground q y)) (access_read q a x h)
+access_read q a _ (times_right x y h) = ap (λ (e : Ground). is_among (spot q a) (reads e)) (ground-Times q x y) ∙ append_among-right (spot q a) (reads (ground q x)) (reads (ground q y)) (access_read q a y h)
+
+-- a right side that reads nothing has no access
+pub no_access : (q : List ℤ) (a : Access) (b : Body) (c : ℕ) → ground q b ≡ number c → IsRead a b → ⊥
+no_access q a b c e h = let k : is_among (spot q a) (reads (ground q b)) ≡ false = ap (λ (g : Ground). is_among (spot q a) (reads g)) e in let t : false ≡ true = sym k ∙ access_read q a b h in cc

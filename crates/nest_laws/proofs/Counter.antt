@@ -1,11 +1,11 @@
 -- What would go wrong: the laws' premises and definitions can't be weaker.
-use Rattle.std.proofs.Common.{◌≡◌, inl, inr, ℕ, List, [], ◌∷◌, refl, arith, ℤ, pos, negsuc, ◌-ℤ◌, ◌*ℤ◌, ◌≤ℤ◌, true, false}
+use Rattle.std.proofs.Common.{◌≡◌, ℕ, [], ◌∷◌, refl, arith, pos, ◌-ℤ◌, ◌*ℤ◌, ◌≤ℤ◌, true, false}
 use Rattle.std.proofs.lemmas.Int.{ints}
 use Rattle.c_tree.specs.declared.statement.How.TheVariants.{Write, Add}
-use Rattle.nest_tree.specs.Places.{IsBefore, place, Item}
+use Rattle.nest_tree.specs.Places.{Item}
 use Rattle.nest_tree.specs.Carriers.{loop, IsCarried}
 use Rattle.c_meaning.specs.Memory.{Spot, Cells}
-use Rattle.c_meaning.specs.Ground.{Ground, number, Step, conflicts}
+use Rattle.c_meaning.specs.Ground.{number, Step, conflicts}
 use Rattle.nest_laws.specs.ListLaws.{effect_of}
 
 -- with its first row alone, a tile isn't told by the value: 7 would be in the tiles 2 and 3 of size 2

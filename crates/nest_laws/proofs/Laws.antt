@@ -1,16 +1,11 @@
 -- The laws in the form in which the functions of this crate state them.
-use Rattle.std.proofs.Common.{◌≡◌, ◌⊎◌, inl, inr, ℕ, zero, suc, ◌≤◌, ◌<◌, List, [], ◌∷◌, length, refl, sym, ◌∙◌, ap, subst, arith, ℤ, pos, Bool, true, false}
+use Rattle.std.proofs.Common.{◌≡◌, ◌⊎◌, inl, inr, zero, suc, List, [], ◌∷◌, length, refl, sym, ◌∙◌, ap, arith}
 use Rattle.std.proofs.lemmas.Bool.{cases_Bool}
-use Rattle.nest_tree.specs.declared.kernel.Nest.{Nest}
-use Rattle.nest_tree.specs.Lists.{IsIn, IsStrictlySorted, IsStrictOrder}
-use Rattle.nest_tree.specs.Places.{IsBefore, place, IsInstance, Item, Precedes}
-use Rattle.nest_tree.specs.Carriers.{Carrier, IsCarried}
-use Rattle.nest_tree.specs.Effects.{effect, IsMoved, KeepsOrder}
-use Rattle.nest_tree.specs.Terms.{Input}
-use Rattle.nest_tree.specs.Kernels.{IsKernelList, IsItemOf}
-use Rattle.nest_tree.specs.Moving.{Move, Goes, IsOneToOne}
-use Rattle.nest_tree.specs.Rewriting.{IsRewritten}
-use Rattle.nest_tree.specs.Pieces.{IsTiledPiece}
+use Rattle.nest_tree.specs.Lists.{IsStrictOrder}
+use Rattle.nest_tree.specs.Places.{Item, Precedes}
+use Rattle.nest_tree.specs.Effects.{effect}
+use Rattle.nest_tree.specs.Kernels.{IsItemOf}
+use Rattle.nest_tree.specs.Moving.{Goes}
 use Rattle.c_meaning.specs.Memory.{Cells}
 use Rattle.c_meaning.specs.Ground.{Step, perform, conflicts}
 use Rattle.nest_laws.specs.Acts.{act}

@@ -22,3 +22,11 @@ pub mod Counter
 pub mod Systems
 pub mod Clashes
 pub mod Tested
+pub mod Loops
+pub mod Scans
+pub mod Trees
+pub mod Running
+pub mod Direct
+pub mod Bounding
+pub mod Weights
+pub mod ShiftTested

@@ -1,7 +1,7 @@
 -- Each statement has a rewritten one for each piece that fits: each variable is replaced by its form.
-use Rattle.std.proofs.Common.{◌≡◌, ◌⊎◌, inl, inr, ℕ, zero, suc, ◌+◌, ◌≤◌, ◌<◌, List, [], ◌∷◌, ◌++◌, map, length, drop, refl, sym, ◌∙◌, ap, subst, arith, ℤ, pos, ◌+ℤ◌, ◌*ℤ◌, append_assoc, length-append}
+use Rattle.std.proofs.Common.{◌≡◌, inl, inr, ℕ, zero, suc, ◌+◌, ◌≤◌, ◌<◌, List, [], ◌∷◌, ◌++◌, map, length, drop, refl, sym, ◌∙◌, ap, subst, arith, ℤ, pos, ◌*ℤ◌, append_assoc, length-append}
 use Rattle.std.proofs.lemmas.Int.{ints}
-use lib.IntN.{*ℤ-zero, zero-*ℤ}
+use lib.IntN.{*ℤ-zero}
 use Rattle.int_rows.specs.declared.row.Aff.{Aff}
 use Rattle.nest_tree.specs.declared.kernel.Nest.{Nest}
 use Rattle.nest_tree.specs.declared.kernel.Term.{Term}
@@ -11,20 +11,17 @@ use Rattle.nest_tree.specs.declared.body.Body.{Body, fold-Body, fold_out-Body, m
 use Rattle.nest_tree.specs.declared.body.Body.TheVariants.{Const, At, Plus, Minus, Times, outs-Const, outs-At, outs-Plus, outs-Minus, outs-Times, rolls-Const, rolls-At, rolls-Plus, rolls-Minus, rolls-Times}
 use Rattle.nest_tree.specs.declared.body.Body.TheOpen.{Body-F, Const as Const-F, At as At-F, Plus as Plus-F, Minus as Minus-F, Times as Times-F}
 use Rattle.nest_tree.specs.declared.moves.Piece.{Piece}
-use Rattle.nest_tree.specs.declared.form.Form.{Form}
 use Rattle.std.specs.Prelude.{None}
 use Rattle.nest_tree.specs.Lists.{IsIn, Pairwise}
 use Rattle.int_rows.specs.Rows.{dot}
-use Rattle.nest_tree.specs.Forms.{value, coef, Names, combined, replaced, replaced_row, times, zeros, variables}
-use Rattle.nest_tree.specs.Moving.{Move}
-use Rattle.nest_tree.specs.Rewriting.{variables_of, HasValue, SaysForm, SaysTerm, SaysRow, SaysAccess, SaysBody, const, at, plus, minus, times as times_says, NamesNoTerm, IsRewritten, AreWithin, IsWide, FitsWide}
+use Rattle.nest_tree.specs.Forms.{coef, combined, replaced, replaced_row, times, zeros, variables}
+use Rattle.nest_tree.specs.Rewriting.{variables_of, HasValue, SaysForm, SaysTerm, SaysRow, SaysAccess, SaysBody, const, at, plus, minus, times as times_says, IsRewritten, AreWithin, IsWide, FitsWide}
 use Rattle.nest_laws.proofs.Lists.{in_append, map-append}
 use Rattle.nest_laws.proofs.Forms.{value-replaced}
-use Rattle.nest_laws.proofs.Points.{length-map}
 use Rattle.nest_laws.proofs.Narrow.{coef-added, coef-scaled, coef-zeros, narrow-variables}
 
 -- the coefficient of a variable in a form with replaced variables
-coef-combined : (x : ℕ) (cs : List ℤ) (fs : List Aff) (n : ℤ) → coef x (combined cs fs n).coefs ≡ dot cs (map (λ f. coef x f.coefs) fs)
+pub coef-combined : (x : ℕ) (cs : List ℤ) (fs : List Aff) (n : ℤ) → coef x (combined cs fs n).coefs ≡ dot cs (map (λ f. coef x f.coefs) fs)
 coef-combined x [] fs n = refl
 coef-combined x (c ∷ cs) [] n = refl
 coef-combined x (c ∷ cs) (f ∷ fs) n =
@@ -38,7 +35,7 @@ length-drop zero cs k h = omega (arith, h)
 length-drop (suc n) [] k h = omega arith
 length-drop (suc n) (c ∷ cs) k h = length-drop n cs k (omega (arith, h))
 
-coef-drop : (n k : ℕ) (cs : List ℤ) → coef k (drop n cs) ≡ coef (n + k) cs
+pub coef-drop : (n k : ℕ) (cs : List ℤ) → coef k (drop n cs) ≡ coef (n + k) cs
 coef-drop zero k cs = let e : k ≡ 0 + k = omega arith in ap (λ (j : ℕ). coef j cs) e
 coef-drop (suc n) k [] = refl
 coef-drop (suc n) k (c ∷ cs) = let e : suc (n + k) ≡ suc n + k = omega arith in coef-drop n k cs ∙ ap (λ (j : ℕ). coef j (c ∷ cs)) e
@@ -102,7 +99,7 @@ replaced_body_layer olds (Plus-F a b) = Plus a b
 replaced_body_layer olds (Minus-F a b) = Minus a b
 replaced_body_layer olds (Times-F a b) = Times a b
 
-replaced_body : List Aff → Body → Body
+pub replaced_body : List Aff → Body → Body
 replaced_body olds = fold-Body Body (replaced_body_layer olds)
 
 body_at : (olds : List Aff) (b : Body) (d : Body-F Body) → out-Body b ≡ d → replaced_body olds b ≡ replaced_body_layer olds (map-Body Body Body (replaced_body olds) d)
@@ -129,6 +126,19 @@ module _ (olds : List Aff) where
 
   says_body : (b : Body) → Says olds b
   says_body = ind-Body (Says olds) (λ x y e. subst (λ d. Says olds (roll-Body d)) e (says_layer (λ e. e.0) (λ e. e.1) y))
+
+-- the statement with replaced variables; the levels for which its rows were made don't matter here
+abbrev pub made_nest : ℕ → Nest → Piece → Nest
+made_nest params n p = record {
+  levels = p.levels;
+  positions = p.positions;
+  terms = map (λ t. record { array = t.array; at = map (replaced (variables_of params n p)) t.at }) n.terms;
+  rows = map (λ r. record { row = replaced_row (variables_of params n p) r.row; own = r.own }) n.rows ++ p.rows;
+  target = record { array = (n.target).array; at = map (replaced (variables_of params n p)) (n.target).at };
+  how = n.how;
+  value = replaced_body (variables_of params n p) n.value;
+  whole = None;
+}
 
 module _ (params : ℕ) (n : Nest) (p : Piece) (wide : IsWide params n) (fits : FitsWide params n p) where
   -- the coefficient of a term stays
@@ -170,31 +180,22 @@ module _ (params : ℕ) (n : Nest) (p : Piece) (wide : IsWide params n) (fits : 
   says_rows [] h = tt
   says_rows (r ∷ rs) h = (record { equal = refl; form = says_form (r.row).form (h r (inl refl)) }, says_rows rs (λ s a. h s (inr a)))
 
-  -- the statement with replaced variables; the levels for which its rows were made don't matter here
+  pub rewritten-made : IsRewritten params (record { old = n; piece = p; new = made_nest params n p })
+  rewritten-made =
+      record {
+        old_shape = wide.shape;
+        new_shape = fits.shape;
+        forms = fits.forms;
+        no_terms = fits.no_terms;
+        positions = refl;
+        terms = says_terms n.terms wide.terms;
+        target = says_access (variables_of params n p) n.target;
+        how = refl;
+        body = says_body (variables_of params n p) n.value;
+        kept = map (λ r. record { row = replaced_row (variables_of params n p) r.row; own = r.own }) n.rows;
+        says = says_rows n.rows wide.rows;
+        rows = refl;
+      }
+
   pub made-rewritten : (new : Nest) × IsRewritten params (record { old = n; piece = p; new = new })
-  made-rewritten = (
-    record {
-      levels = p.levels;
-      positions = p.positions;
-      terms = map (λ t. record { array = t.array; at = map (replaced (variables_of params n p)) t.at }) n.terms;
-      rows = map (λ r. record { row = replaced_row (variables_of params n p) r.row; own = r.own }) n.rows ++ p.rows;
-      target = record { array = (n.target).array; at = map (replaced (variables_of params n p)) (n.target).at };
-      how = n.how;
-      value = replaced_body (variables_of params n p) n.value;
-      whole = None;
-    },
-    record {
-      old_shape = wide.shape;
-      new_shape = fits.shape;
-      forms = fits.forms;
-      no_terms = fits.no_terms;
-      positions = refl;
-      terms = says_terms n.terms wide.terms;
-      target = says_access (variables_of params n p) n.target;
-      how = refl;
-      body = says_body (variables_of params n p) n.value;
-      kept = map (λ r. record { row = replaced_row (variables_of params n p) r.row; own = r.own }) n.rows;
-      says = says_rows n.rows wide.rows;
-      rows = refl;
-    },
-  )
+  made-rewritten = (made_nest params n p, rewritten-made)

@@ -1,5 +1,5 @@
 -- The list of the kernel that a command's pieces make is the moved list, one to one.
-use Rattle.std.proofs.Common.{◌≡◌, ℕ, List, ◌++◌, map, refl, sym, ◌∙◌, ap, subst, ℤ}
+use Rattle.std.proofs.Common.{◌≡◌, ℕ, List, map, refl, sym, ◌∙◌, ap, subst, ℤ}
 use Rattle.nest_tree.specs.declared.kernel.Nest.{Nest}
 use Rattle.nest_tree.specs.Lists.{IsIn}
 use Rattle.nest_tree.specs.Forms.{value}

@@ -1,5 +1,5 @@
 -- The pieces of `permute`, `tile`, `skew`, `shift`, `fuse` and `distribute` map old instances to new points one to one.
-use Rattle.std.proofs.Common.{◌≡◌, ◌⊎◌, inl, inr, ℕ, zero, suc, ◌+◌, ◌<◌, ◌≤◌, List, [], ◌∷◌, ◌++◌, map, length, refl, sym, ◌∙◌, ap, subst, subst₂, arith, ℤ, pos, ◌+ℤ◌, ◌-ℤ◌, ◌*ℤ◌, neg_ℤ, ◌≤ℤ◌, Bool, false, cond, nat_eq}
+use Rattle.std.proofs.Common.{◌≡◌, inl, inr, ℕ, zero, suc, ◌+◌, ◌<◌, ◌≤◌, List, [], ◌∷◌, ◌++◌, map, length, refl, sym, ◌∙◌, ap, subst, subst₂, arith, ℤ, pos, ◌+ℤ◌, ◌-ℤ◌, ◌*ℤ◌, neg_ℤ, ◌≤ℤ◌, Bool, false, nat_eq}
 use Rattle.std.proofs.lemmas.Int.{ints}
 use Rattle.std.proofs.lemmas.Bool.{cases_Bool}
 use Rattle.int_rows.specs.declared.row.Aff.{Aff}
@@ -7,14 +7,14 @@ use Rattle.nest_tree.specs.declared.kernel.KernelRow.{KernelRow}
 use Rattle.nest_tree.specs.Lists.{IsIn, Pairwise}
 use Rattle.nest_tree.specs.Places.{IsInstance}
 use Rattle.int_rows.specs.Rows.{Holds}
-use Rattle.nest_tree.specs.Forms.{value, Names, coef, sum, times, less, number, variables}
-use Rattle.nest_tree.specs.Terms.{Input, term_values, IsFound}
-use Rattle.nest_tree.specs.Kernels.{point, IsMet, IsPointOf}
+use Rattle.nest_tree.specs.Forms.{value, sum, times, less, number, variables}
+use Rattle.nest_tree.specs.Terms.{Input, term_values}
+use Rattle.nest_tree.specs.Kernels.{point, IsPointOf}
 use Rattle.nest_tree.specs.Moving.{Move, Gives, IsOneToOne}
 use Rattle.nest_tree.specs.Rewriting.{NamesNoTerm, IsRewritten}
-use Rattle.nest_tree.specs.Levels.{at_level, without, permuted, value_for, unpermuted, IsPermutation, NoTwice, IsInTile, IsTiled, skewed, unskewed, shifted}
-use Rattle.nest_tree.specs.Pieces.{form_at, form_for, permuted_forms, unskewed_forms, unshifted_forms, tile_rows, IsLike, IsRowLike, HasForms, IsPermutedPiece, IsTiledPiece, IsSkewedPiece, IsShiftedPiece, IsPlacedPiece}
-use Rattle.nest_laws.proofs.Lists.{pair_of-first, pair_of-second, pairs-map, pairs-length}
+use Rattle.nest_tree.specs.Levels.{at_level, without, permuted, value_for, unpermuted, IsPermutation, NoTwice, IsTiled, skewed, unskewed, shifted}
+use Rattle.nest_tree.specs.Pieces.{form_at, form_for, permuted_forms, unskewed_forms, unshifted_forms, tile_rows, IsLike, IsRowLike, IsPermutedPiece, IsTiledPiece, IsSkewedPiece, IsShiftedPiece, IsPlacedPiece}
+use Rattle.nest_laws.proofs.Lists.{pair_of-first, pair_of-second, pairs-map}
 use Rattle.nest_laws.proofs.Forms.{value-sum, value-times, value-less, value-variables}
 use Rattle.nest_laws.proofs.Rewriting.{instance_of, instance-depth}
 use Rattle.nest_laws.proofs.Levels.{shifted-back, shifted-forth, shifted-length, skewed-back, skewed-forth, skewed-length, permuted-back, permuted-forth, tiled_exists, tiled_one, level-without}

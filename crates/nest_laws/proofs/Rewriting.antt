@@ -1,15 +1,15 @@
 -- A rewritten statement is the old one at the level values that the piece's forms give.
-use Rattle.std.proofs.Common.{◌≡◌, ◌⊎◌, inl, inr, ℕ, suc, ◌+◌, List, [], ◌∷◌, ◌++◌, map, length, refl, sym, ◌∙◌, ap, subst, subst₂, arith, ℤ, pos, ◌+ℤ◌, Bool, zero, append_assoc, append-nil, length-append}
+use Rattle.std.proofs.Common.{◌≡◌, inl, inr, ℕ, suc, ◌+◌, List, [], ◌∷◌, ◌++◌, map, length, refl, sym, ◌∙◌, ap, subst, subst₂, arith, ℤ, pos, ◌+ℤ◌, Bool, zero, append_assoc, append-nil, length-append}
 use Rattle.int_rows.specs.declared.row.Aff.{Aff}
 use Rattle.nest_tree.specs.declared.kernel.Term.{Term}
 use Rattle.nest_tree.specs.declared.kernel.KernelRow.{KernelRow}
-use Rattle.nest_tree.specs.Lists.{IsIn, IsAt, Pairwise}
+use Rattle.nest_tree.specs.Lists.{IsIn, Pairwise}
 use Rattle.nest_tree.specs.Places.{IsInstance}
 use Rattle.int_rows.specs.Rows.{Holds}
 use Rattle.nest_tree.specs.Forms.{value, Names, variables}
 use Rattle.nest_tree.specs.Terms.{Input, or_zero, reading, rounds, term_values, IsFound, found}
 use Rattle.nest_tree.specs.Kernels.{Acting, point, IsMet, IsPointOf}
-use Rattle.nest_tree.specs.Moving.{Move, Gives, StandsFor}
+use Rattle.nest_tree.specs.Moving.{Move, StandsFor}
 use Rattle.nest_tree.specs.Rewriting.{old_variables, SaysForm, SaysTerm, SaysRow, NamesNoTerm, IsRewritten}
 use Rattle.nest_laws.proofs.Lists.{in_append, in_append-left, in_append-right, pair_of-first, pair_of-second, pair_at-first, pair_at-second, pairs-map, pairs-length, map-append}
 use Rattle.nest_laws.proofs.Forms.{value-variables}

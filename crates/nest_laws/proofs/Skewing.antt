@@ -1,5 +1,5 @@
 -- `skew` keeps the order of instances.
-use Rattle.std.proofs.Common.{ℕ, zero, suc, List, [], ◌∷◌, length, ◌≡◌, ap, subst, sym, ◌∙◌, arith, ℤ, pos, ◌+ℤ◌, ◌*ℤ◌}
+use Rattle.std.proofs.Common.{ℕ, zero, suc, List, [], ◌∷◌, ap, subst, sym, ◌∙◌, arith, ℤ, pos, ◌+ℤ◌, ◌*ℤ◌}
 use Rattle.std.proofs.lemmas.Int.{ints}
 use Rattle.nest_tree.specs.Places.{IsBefore, place, IsInstance}
 use Rattle.nest_tree.specs.Carriers.{shared, AgreeOn, IsSmallerAt, Carrier, loop, text, IsCarried}

@@ -1,10 +1,9 @@
 -- Small instances of the definitions of commands, by computing.
-use Rattle.std.proofs.Common.{◌≡◌, inl, inr, ℕ, List, [], ◌∷◌, refl, arith, ℤ, pos, negsuc, ◌<ℤ◌}
+use Rattle.std.proofs.Common.{◌≡◌, inl, inr, [], ◌∷◌, refl, arith, pos, negsuc}
 use Rattle.std.proofs.lemmas.Int.{ints}
-use Rattle.nest_tree.specs.Places.{IsBefore, place}
-use Rattle.nest_tree.specs.Carriers.{shared, Carrier, loop, text, IsCarried}
-use Rattle.nest_tree.specs.Levels.{permuted, unpermuted, IsTiled, skewed, unskewed, shifted}
-use Rattle.nest_tree.specs.Unrolling.{Upper, Part, full, rest, IsUnrolled}
+use Rattle.nest_tree.specs.Carriers.{shared, loop, text, IsCarried}
+use Rattle.nest_tree.specs.Levels.{permuted, unpermuted, IsTiled, skewed, shifted}
+use Rattle.nest_tree.specs.Unrolling.{full, rest, IsUnrolled}
 
 -- the order (2, 3, 1): new level 1 is old level 2
 permuted_levels : permuted (2 ∷ 3 ∷ 1 ∷ []) (pos 7 ∷ pos 8 ∷ pos 9 ∷ []) ≡ pos 8 ∷ pos 9 ∷ pos 7 ∷ []

@@ -1,9 +1,7 @@
 -- Each term's value is what its array holds at the values of its arguments, and no other values are.
-use Rattle.std.proofs.Common.{◌≡◌, ◌⊎◌, inl, inr, ℕ, zero, suc, ◌+◌, ◌<◌, List, [], ◌∷◌, ◌++◌, map, length, refl, sym, ◌∙◌, ap, subst, arith, ℤ, pos, ◌+ℤ◌, ◌*ℤ◌}
-use Rattle.std.proofs.lemmas.Int.{ints}
-use Rattle.int_rows.specs.declared.row.Aff.{Aff}
+use Rattle.std.proofs.Common.{◌≡◌, ℕ, zero, suc, ◌<◌, List, [], ◌∷◌, ◌++◌, map, length, sym, ◌∙◌, ap, arith, ℤ, pos, ◌+ℤ◌}
 use Rattle.nest_tree.specs.declared.kernel.Term.{Term}
-use Rattle.nest_tree.specs.Lists.{IsIn, IsAt}
+use Rattle.nest_tree.specs.Lists.{IsAt}
 use Rattle.nest_tree.specs.Forms.{value, coef}
 use Rattle.nest_tree.specs.Terms.{Input, or_zero, reading, rounds, term_values, HaveRanks}
 use Rattle.nest_laws.proofs.Points.{dot-behind, coef-map, map-same, length-map, by_places}

@@ -1,12 +1,11 @@
 -- A command whose systems are all excluded keeps the order of conflicting assignments.
-use Rattle.std.proofs.Common.{◌≡◌, ◌⊎◌, inl, inr, ℕ, zero, suc, ◌≤◌, Bool, true, false, ◌||◌, List, [], ◌∷◌, ◌++◌, map, length, refl, sym, ◌∙◌, ap, subst, subst₂, arith, ℤ, pos, ◌+ℤ◌, ◌*ℤ◌}
+use Rattle.std.proofs.Common.{◌≡◌, ◌⊎◌, inl, inr, ℕ, suc, ◌≤◌, Bool, true, false, ◌||◌, List, [], ◌∷◌, map, length, refl, sym, ◌∙◌, ap, subst, subst₂, arith, ℤ, pos, ◌+ℤ◌, ◌*ℤ◌}
 use Rattle.std.proofs.lemmas.Int.{ints}
-use Rattle.std.specs.List.{AllByRecursion}
 use Rattle.int_rows.specs.declared.row.Aff.{Aff}
 use Rattle.int_rows.specs.declared.row.Row.{Row}
 use Rattle.int_rows.specs.Rows.{dot, Holds, Meets as MeetsScaled}
 use Rattle.int_rows.proofs.Following.{no_point}
-use Rattle.c_meaning.specs.Memory.{Spot, Cells}
+use Rattle.c_meaning.specs.Memory.{Spot}
 use Rattle.c_meaning.specs.Ground.{Step, conflicts}
 use Rattle.nest_tree.specs.declared.kernel.Nest.{Nest}
 use Rattle.nest_tree.specs.declared.body.Access.{Access}
@@ -15,11 +14,11 @@ use Rattle.nest_tree.specs.Places.{IsBefore, place, IsInstance, Item, Precedes}
 use Rattle.nest_tree.specs.Effects.{KeepsOrder}
 use Rattle.nest_tree.specs.Forms.{value, Meets}
 use Rattle.nest_tree.specs.Terms.{Input}
-use Rattle.nest_tree.specs.Kernels.{point, IsPointOf, item_at, IsKernelList, AreDistinct}
-use Rattle.nest_tree.specs.Moving.{Move, Gives, Goes, StandsFor, IsMade, ArePieces}
-use Rattle.nest_tree.specs.Systems.{Clash, Pair, system, variables_count, joint_point}
+use Rattle.nest_tree.specs.Kernels.{point, IsPointOf, IsKernelList}
+use Rattle.nest_tree.specs.Moving.{Move, Goes}
+use Rattle.nest_tree.specs.Systems.{Pair, system, variables_count, joint_point}
 use Rattle.nest_laws.specs.Acts.{three, spot, act}
-use Rattle.nest_laws.specs.ListLaws.{AreInConflict, effect_of}
+use Rattle.nest_laws.specs.ListLaws.{AreInConflict}
 use Rattle.nest_laws.specs.SystemLaws.{IsTested, ExcludedSystemsKeepOrder, TestedCommandKeepsEffect}
 use Rattle.nest_laws.proofs.Places.{order_of_places, in_some_order}
 use Rattle.nest_laws.proofs.Rewriting.{instance-depth}

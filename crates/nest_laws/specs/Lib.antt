@@ -3,3 +3,7 @@ pub mod ListLaws
 pub mod KernelLaws
 pub mod PieceLaws
 pub mod SystemLaws
+pub mod Trees
+pub mod RunLaws
+pub mod BoundLaws
+pub mod Weights

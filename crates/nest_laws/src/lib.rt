@@ -5,6 +5,7 @@ mod commands;
 mod dependence;
 mod kernels;
 mod order;
+mod runs;
 
 pub use commands::{
     permute_is_one_to_one, place_is_one_to_one, shift_is_one_to_one, skew_is_one_to_one,
@@ -18,4 +19,8 @@ pub use kernels::{
 pub use order::{
     carriers_tell_order, kernel_has_one_list, members_tell_sorted_list, order_keeps_effect,
     place_tells_instance, places_have_an_order,
+};
+pub use runs::{
+    direct_row_bounds_level, executor_performs_its_loops, leaves_tell_performed,
+    scan_has_kernel_list, small_expression_has_value,
 };

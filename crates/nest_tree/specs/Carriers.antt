@@ -1,5 +1,5 @@
 -- The loops that two statements share, and what carries the order of two instances.
-use Rattle.std.specs.Prelude.{◌≡◌, ℕ, zero, suc, ◌≤◌, ◌<◌, List, [], ◌∷◌, ℤ, ◌<ℤ◌, cond, nat_eq}
+use Rattle.std.specs.Prelude.{◌≡◌, ℕ, zero, suc, ◌≤◌, ◌<◌, List, ◌∷◌, ℤ, ◌<ℤ◌, cond, nat_eq}
 use Rattle.nest_tree.specs.Places.{IsTextBefore}
 
 -- how many loops two statements share, by their positions

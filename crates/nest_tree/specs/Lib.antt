@@ -11,3 +11,5 @@ pub mod Levels
 pub mod Pieces
 pub mod Unrolling
 pub mod Systems
+pub mod Loops
+pub mod Scans

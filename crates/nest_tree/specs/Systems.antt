@@ -9,7 +9,7 @@ use Rattle.nest_tree.specs.declared.kernel.KernelRow.{KernelRow}
 use Rattle.nest_tree.specs.declared.body.Access.{Access}
 use Rattle.nest_tree.specs.declared.body.Body.{Body}
 use Rattle.nest_tree.specs.declared.body.Body.TheVariants.{At, Plus, Minus, Times}
-use Rattle.int_rows.specs.Systems.{Rows, excluded}
+use Rattle.int_rows.specs.Systems.{excluded}
 use Rattle.nest_tree.specs.Lists.{IsIn}
 use Rattle.nest_tree.specs.Places.{IsBefore, place}
 use Rattle.nest_tree.specs.Forms.{less, sum, number, replaced, replaced_row, variables, Meets}

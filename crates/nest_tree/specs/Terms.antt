@@ -1,9 +1,9 @@
 -- What the terms of a statement read on an input, and which of them find a cell.
-use Rattle.std.specs.Prelude.{◌≡◌, ◌⊎◌, ℕ, zero, suc, ◌+◌, ◌<◌, List, [], ◌∷◌, ◌++◌, map, length, ℤ, pos, Option, Some, None}
+use Rattle.std.specs.Prelude.{◌≡◌, ℕ, zero, suc, ◌+◌, ◌<◌, List, ◌++◌, map, length, ℤ, pos, Option, Some, None}
 use Rattle.int_rows.specs.declared.row.Aff.{Aff}
 use Rattle.nest_tree.specs.declared.kernel.Term.{Term}
 use Rattle.nest_tree.specs.Lists.{IsIn, IsAt}
-use Rattle.nest_tree.specs.Forms.{value, Names}
+use Rattle.nest_tree.specs.Forms.{value, Names, coef}
 
 -- what a kernel sees of an input: the parameters in order, and each cell of its index arrays, none outside an array
 pub record Input : Type 0 where
@@ -40,10 +40,23 @@ pub record HaveRanks (width : ℕ) (terms : List Term) (rank : ℕ → ℕ) : Ty
   pub bounded : (k : ℕ) → rank k < length terms
   pub above : (k : ℕ) (t : Term) (f : Aff) (j : ℕ) → IsAt k t terms → IsIn f t.at → Names f (width + j) → rank j < rank k
 
--- terms whose arguments name only variables before x, and such terms
-pub record AreReady (width x : ℕ) (terms : List Term) (Ready : ℕ → Type 0) : Type 0 where
-  pub each : (k : ℕ) (t : Term) (f : Aff) (j : ℕ) → Ready k → IsAt k t terms → IsIn f t.at → Names f j → (j < x) ⊎ ((n : ℕ) × Ready n × (j ≡ width + n))
+-- a term is ready before a variable x, of so many parameters and levels, where its arguments name only variables before x and ready terms
+pub data IsReady (width x : ℕ) (terms : List Term) : ℕ → Type 0 where
+  ready : (k : ℕ) (t : Term) → IsAt k t terms → ((f : Aff) (j : ℕ) → IsIn f t.at → Names f j → j < width → j < x) → ((f : Aff) (n : ℕ) → IsIn f t.at → Names f (width + n) → IsReady width x terms n) → IsReady width x terms k
 
--- a form that names only variables before x, x itself, and ready terms
-abbrev pub IsDirect : ℕ → ℕ → (ℕ → Type 0) → Aff → Type 0
-IsDirect width x Ready f = (j : ℕ) → Names f j → (j ≡ x → ⊥) → (j < x) ⊎ ((n : ℕ) × Ready n × (j ≡ width + n))
+-- a form is direct at x where it names x, no later variable but terms, and only terms that are ready before x
+pub record IsDirect (width x : ℕ) (terms : List Term) (f : Aff) : Type 0 where
+  pub named : Names f x
+  pub no_later : (j : ℕ) → Names f j → x < j → j < width → ⊥
+  pub ready_terms : (n : ℕ) → Names f (width + n) → IsReady width x terms n
+
+-- the parameters and levels with the values of the terms behind them
+abbrev pub with_terms : Input → List Term → List ℤ → List ℤ
+with_terms i terms p = p ++ term_values i terms p
+
+-- q has the values of p before x, and 0 at x
+pub record IsCut (x : ℕ) (p q : List ℤ) : Type 0 where
+  pub same_length : length q ≡ length p
+  pub is_variable : x < length p
+  pub before : (j : ℕ) → j < x → coef j p ≡ coef j q
+  pub zero_at : coef x q ≡ pos 0
