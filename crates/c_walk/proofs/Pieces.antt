@@ -28,17 +28,17 @@ growth_left : (is js : List (Item Deed)) → has_growth is ≡ true → has_grow
 growth_left [] js h = cc
 growth_left (i ∷ is) js h = by (is_growth i.step) (has_growth is) (has_growth (is ++ js)) h (growth_left is js)
   where
-  by : (p q r : Bool) → (p || q) ≡ true → (q ≡ true → r ≡ true) → (p || r) ≡ true
-  by true q r h k = refl
-  by false q r h k = k h
+    by : (p q r : Bool) → (p || q) ≡ true → (q ≡ true → r ≡ true) → (p || r) ≡ true
+    by true q r h k = refl
+    by false q r h k = k h
 
 growth_right : (is js : List (Item Deed)) → has_growth js ≡ true → has_growth (is ++ js) ≡ true
 growth_right [] js h = h
 growth_right (i ∷ is) js h = by (is_growth i.step) (has_growth (is ++ js)) (growth_right is js h)
   where
-  by : (p r : Bool) → r ≡ true → (p || r) ≡ true
-  by true r k = refl
-  by false r k = k
+    by : (p r : Bool) → r ≡ true → (p || r) ≡ true
+    by true r k = refl
+    by false r k = k
 
 pub does_same : (F G : Run) (s s' : State) (r : Ended) → F (memory_in s) ≡ G (memory_in s) → Does F s s' r → Does G s s' r
 does_same F G s s' r h d = record {

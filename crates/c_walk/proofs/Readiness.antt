@@ -15,7 +15,7 @@ use Rattle.c_meaning.specs.Scope.{Scope, fits, cell_fits, data_cell_fits, test_f
 use Rattle.c_meaning.specs.Run.{part, widths}
 use Rattle.c_meaning.proofs.Fitting.{and_left, and_right}
 use Rattle.c_walk.specs.State.{with_number}
-use Rattle.c_walk.specs.Ready.{data_fits, is_ready, are_ready, ready_layer, most_children, most_loops}
+use Rattle.c_walk.specs.Ready.{data_fits, is_ready, are_ready, ready_layer, has_array, most_children, most_loops}
 
 abbrev Ready : Type 0
 Ready = Scope → ℕ → Bool
@@ -100,5 +100,5 @@ module _ (c : Scope) (d : ℕ) where
   pub no_declaration : (t : Stmt) (name : Name) (kind : Kind) (inner : List Index) → t ≡ Declare name kind inner → is_ready t c d ≡ true → ⊥
   no_declaration t name kind inner h k = let e : false ≡ true = ap (λ f. f c d) (sym (ready-Declare name kind inner)) ∙ ap (λ t. is_ready t c d) (sym h) ∙ k in absurd cc
 
-  pub growth_ready : (t : Stmt) (name : Name) (by : Index) → t ≡ Grow name by → is_ready t c d ≡ true → ((nat_lt 0 (c.index_arrays name) || nat_lt 0 (c.data_arrays name)) && fits by c) ≡ true
+  pub growth_ready : (t : Stmt) (name : Name) (by : Index) → t ≡ Grow name by → is_ready t c d ≡ true → (has_array name c && fits by c) ≡ true
   growth_ready t name by h k = ap (λ f. f c d) (sym (ready-Grow name by)) ∙ ap (λ t. is_ready t c d) (sym h) ∙ k

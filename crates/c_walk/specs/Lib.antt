@@ -1,3 +1,4 @@
 pub mod State
 pub mod Ready
 pub mod Does
+pub mod Data

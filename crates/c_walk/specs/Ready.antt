@@ -5,6 +5,7 @@ use Rattle.c_tree.specs.declared.data.Expr.{Expr, fold-Expr}
 use Rattle.c_tree.specs.declared.data.Expr.TheOpen.{Expr-F, Const, At, Plus, Minus, Times}
 use Rattle.c_tree.specs.declared.statement.Stmt.{Stmt, para-Stmt}
 use Rattle.c_tree.specs.declared.statement.Stmt.TheOpen.{Stmt-F, For, If, Assign, Put, Declare, Grow}
+use Rattle.c_meaning.specs.Names.{Name}
 use Rattle.c_meaning.specs.Scope.{Scope, Fit, fits, cell_fits, data_cell_fits, test_fits}
 use Rattle.c_meaning.specs.Run.{part, widths}
 use Rattle.c_walk.specs.State.{with_number}
@@ -27,6 +28,9 @@ most_children = 2 ^ 32
 abbrev pub most_loops : ℕ
 most_loops = 8
 
+abbrev pub has_array : Name → Scope → Bool
+has_array a c = nat_lt 0 (c.index_arrays a) || nat_lt 0 (c.data_arrays a)
+
 abbrev pub ready_layer : Stmt-F (Stmt × (Scope → ℕ → Bool)) → Scope → ℕ → Bool
 ready_layer (For x low high body) c d =
     (fits low c && fits high c) && ((nat_lt d most_loops && nat_le (widths (map (λ p. part p.0) body)) most_children) && list_all (λ p. p.1 (with_number x c) (suc d)) body)
@@ -34,7 +38,7 @@ ready_layer (If tests body) c d = list_all (λ t. test_fits t c) tests && list_a
 ready_layer (Assign target how value) c d = data_cell_fits target c && data_fits value c
 ready_layer (Put target value) c d = cell_fits target c && fits value c
 ready_layer (Declare name kind inner) c d = false
-ready_layer (Grow name by) c d = (nat_lt 0 (c.index_arrays name) || nat_lt 0 (c.data_arrays name)) && fits by c
+ready_layer (Grow name by) c d = has_array name c && fits by c
 
 -- in d loops, the statement names what is in the scope, as it should, it stands in at most eight loops with its own, and
 -- it has no declaration in it

@@ -59,6 +59,9 @@ left_to (l ∷ ls) s = record {
 abbrev pub left : State → State
 left s = left_to s.outer s
 
+abbrev pub with_cells : Cells → Memory → Memory
+with_cells k m = record { extents = m.extents; index = m.index; cells = k }
+
 abbrev pub spot : Name → List ℤ → Spot
 spot a at = record { array = a; at = at }
 

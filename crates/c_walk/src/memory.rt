@@ -1,14 +1,14 @@
 // What a program runs on.
-ghost use Rattle.std.specs.Prelude.{◌≡◌, ◌<◌, ◌||◌, ◌&&◌, nat_lt, IsTrue, length};
-ghost use Rattle.c_meaning.specs.Scope.{fits, cell_fits, data_cell_fits};
-ghost use Rattle.c_walk.specs.State.{Rest, state_of, entered, left};
-ghost use Rattle.c_walk.specs.Ready.{data_fits, most_loops};
-ghost use Rattle.c_walk.specs.Does.{Does, assignment, index_assignment, growth};
+ghost use Rattle.std.specs.Prelude.{◌≡◌, ◌<◌, ◌∷◌, [], slice_index, pos, IsTrue, length, OnOk, OnErr};
+ghost use Rattle.c_meaning.specs.Value.{is_inside};
+ghost use Rattle.c_meaning.specs.Ground.{written};
+ghost use Rattle.c_meaning.specs.Run.{put_in, with_extents, grown, is_within};
+ghost use Rattle.c_walk.specs.State.{Rest, state_of, memory_in, with_memory, with_cells, entered, left, spot, data_seen};
+ghost use Rattle.c_walk.specs.Ready.{most_loops, has_array};
 
-use crate::Halt;
 use c_meaning::View;
-use c_tree::{Cell, Expr, How, Index};
-use chill_base::{Name, Place};
+use c_tree::{Cell, Expr, How};
+use chill_base::{Failed, Name, NoMemory, Place};
 
 /// The arrays and the numbers of a run.
 pub trait Memory: View {
@@ -25,18 +25,42 @@ pub trait Memory: View {
         requires { 0 < length (rest self.old).outer }
         ensures { state_of (Self.scope self.new) (Self.sight self.new) (rest self.new) ≡ left (state_of (Self.scope self.old) (Self.sight self.old) (rest self.old)) };
 
-    /// An assignment to a data cell.
-    fn assign(&mut self, place: &Place, target: &Cell, how: How, value: &Expr) -> Result<(), Halt>
-        requires { IsTrue (data_cell_fits target.now (Self.scope self.old) && data_fits value.now (Self.scope self.old)) }
-        ensures { Does (assignment target.now how value.now (Self.sight self.old).value place.now) (state_of (Self.scope self.old) (Self.sight self.old) (rest self.old)) (state_of (Self.scope self.new) (Self.sight self.new) (rest self.new)) result };
+    /// A cell of a data array, missing subscripts being 0. None exactly where a subscript isn't inside.
+    fn data_cell(&self, array: &Name, at: [i64; 3]) -> Option<u64>
+        requires { 0 < (Self.scope self.now).data_arrays array.now }
+        ensures { result ≡ data_seen (state_of (Self.scope self.now) (Self.sight self.now) (rest self.now)) array.now at };
 
-    /// An assignment to a cell of an index array.
-    fn put(&mut self, place: &Place, target: &Cell, value: &Index) -> Result<(), Halt>
-        requires { IsTrue (cell_fits target.now (Self.scope self.old) && fits value.now (Self.scope self.old)) }
-        ensures { Does (index_assignment target.now value.now (Self.sight self.old).value place.now) (state_of (Self.scope self.old) (Self.sight self.old) (rest self.old)) (state_of (Self.scope self.new) (Self.sight self.new) (rest self.new)) result };
+    /// Writes a cell of a data array.
+    fn set_data(&mut self, array: &Name, at: [i64; 3], value: u64)
+        requires has { 0 < (Self.scope self.old).data_arrays array.now }
+        requires inside { IsTrue (is_inside at ((Self.sight self.old).extents array.now)) }
+        ensures { let before = state_of (Self.scope self.old) (Self.sight self.old) (rest self.old) in state_of (Self.scope self.new) (Self.sight self.new) (rest self.new) ≡ with_memory (with_cells (written before.cells (spot array.now at) value) (memory_in before)) before };
 
-    /// A growth by zero cells.
-    fn grow(&mut self, place: &Place, name: &Name, by: &Index) -> Result<(), Halt>
-        requires { IsTrue ((nat_lt 0 ((Self.scope self.old).index_arrays name.now) || nat_lt 0 ((Self.scope self.old).data_arrays name.now)) && fits by.now (Self.scope self.old)) }
-        ensures { Does (growth name.now by.now (Self.sight self.old).value place.now) (state_of (Self.scope self.old) (Self.sight self.old) (rest self.old)) (state_of (Self.scope self.new) (Self.sight self.new) (rest self.new)) result };
+    /// Writes a cell of an index array.
+    fn set_index(&mut self, array: &Name, at: [i64; 3], value: i64)
+        requires has { 0 < (Self.scope self.old).index_arrays array.now }
+        requires inside { IsTrue (is_inside at ((Self.sight self.old).extents array.now)) }
+        ensures { let before = state_of (Self.scope self.old) (Self.sight self.old) (rest self.old) in state_of (Self.scope self.new) (Self.sight self.new) (rest self.new) ≡ with_memory (put_in array.now at value (memory_in before)) before };
+
+    /// The three extents of an array, missing ones being 1.
+    fn extents(&self, array: &Name) -> [u64; 3]
+        requires { IsTrue (has_array array.now (Self.scope self.now)) }
+        ensures { (Self.sight self.now).extents array.now ≡ pos (slice_index result 0) ∷ pos (slice_index result 1) ∷ pos (slice_index result 2) ∷ [] };
+
+    /// Appends zeros, so that the first extent rises.
+    fn grow(&mut self, array: &Name, count: u64) -> Result<(), NoMemory>
+        requires has { IsTrue (has_array array.now (Self.scope self.old)) }
+        requires within { IsTrue (is_within (grown (pos count) ((Self.sight self.old).extents array.now))) }
+        ensures grown { let before = state_of (Self.scope self.old) (Self.sight self.old) (rest self.old) in OnOk result (state_of (Self.scope self.new) (Self.sight self.new) (rest self.new) ≡ with_memory (with_extents array.now (grown (pos count) (before.sight.extents array.now)) (memory_in before)) before) }
+        ensures kept { OnErr result (state_of (Self.scope self.new) (Self.sight self.new) (rest self.new) ≡ state_of (Self.scope self.old) (Self.sight self.old) (rest self.old)) };
+
+    /// Is told each assignment right before it is made.
+    fn announce(
+        &mut self,
+        place: &Place,
+        target: &Cell,
+        how: How,
+        value: &Expr,
+    ) -> Result<(), Failed>
+        ensures { state_of (Self.scope self.new) (Self.sight self.new) (rest self.new) ≡ state_of (Self.scope self.old) (Self.sight self.old) (rest self.old) };
 }

@@ -11,6 +11,7 @@ ghost use Rattle.c_walk.specs.State.{state_of, with_number};
 ghost use Rattle.c_walk.specs.Ready.{is_ready, are_ready, most_loops, most_children};
 ghost use Rattle.c_walk.specs.Does.{Does};
 
+use crate::steps::{assign, grow, put};
 use crate::{Halt, Memory};
 use c_meaning::{EvalFault, View, eval_index, eval_test};
 use c_tree::{Index, Stmt, Test};
@@ -120,14 +121,14 @@ fn run_statement<M: Memory>(
             Ok(false) => Ok(()),
             Err(fault) => Err(Halt::Fault { place: here, fault }),
         },
-        Stmt::Assign { target, how, value } => memory.assign(&here, target, *how, value),
-        Stmt::Put { target, value } => memory.put(&here, target, value),
+        Stmt::Assign { target, how, value } => assign(memory, &here, target, *how, value),
+        Stmt::Put { target, value } => put(memory, &here, target, value),
         Stmt::Declare {
             name: _,
             kind: _,
             inner: _,
         } => unreachable!(),
-        Stmt::Grow { name, by } => memory.grow(&here, name, by),
+        Stmt::Grow { name, by } => grow(memory, &here, name, by),
     }
 }
 

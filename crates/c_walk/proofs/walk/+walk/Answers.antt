@@ -51,15 +51,15 @@ run_statement-returns-in-For g t c =
 
 pub run_statement-returns-in-Assign : goal.run_statement-returns-in-Assign
 run_statement-returns-in-Assign g t c =
-    does-Assign c.args.statement.now (g.M.View.sight c.args.memory.now).value c.args.at.now c.child_of-here.result c.args.position (state_of (g.M.View.scope c.args.memory.now) (g.M.View.sight c.args.memory.now) (g.M.Memory.rest c.args.memory.now)) (state_of (g.M.View.scope c.assign.new.self) (g.M.View.sight c.assign.new.self) (g.M.Memory.rest c.assign.new.self)) c.assign.result c.child_of-here.ensures c.in-Assign.target c.in-Assign.how c.in-Assign.value c.in-Assign.is c.assign.ensures
+    does-Assign c.args.statement.now (g.M.View.sight c.args.memory.now).value c.args.at.now c.child_of-here.result c.args.position (state_of (g.M.View.scope c.args.memory.now) (g.M.View.sight c.args.memory.now) (g.M.Memory.rest c.args.memory.now)) (state_of (g.M.View.scope c.assign.new.memory) (g.M.View.sight c.assign.new.memory) (g.M.Memory.rest c.assign.new.memory)) c.assign.result c.child_of-here.ensures c.in-Assign.target c.in-Assign.how c.in-Assign.value c.in-Assign.is c.assign.ensures
 
 pub run_statement-returns-in-Put : goal.run_statement-returns-in-Put
 run_statement-returns-in-Put g t c =
-    does-Put c.args.statement.now (g.M.View.sight c.args.memory.now).value c.args.at.now c.child_of-here.result c.args.position (state_of (g.M.View.scope c.args.memory.now) (g.M.View.sight c.args.memory.now) (g.M.Memory.rest c.args.memory.now)) (state_of (g.M.View.scope c.put.new.self) (g.M.View.sight c.put.new.self) (g.M.Memory.rest c.put.new.self)) c.put.result c.child_of-here.ensures c.in-Put.target c.in-Put.value c.in-Put.is c.put.ensures
+    does-Put c.args.statement.now (g.M.View.sight c.args.memory.now).value c.args.at.now c.child_of-here.result c.args.position (state_of (g.M.View.scope c.args.memory.now) (g.M.View.sight c.args.memory.now) (g.M.Memory.rest c.args.memory.now)) (state_of (g.M.View.scope c.put.new.memory) (g.M.View.sight c.put.new.memory) (g.M.Memory.rest c.put.new.memory)) c.put.result c.child_of-here.ensures c.in-Put.target c.in-Put.value c.in-Put.is c.put.ensures
 
 pub run_statement-returns-in-Grow : goal.run_statement-returns-in-Grow
 run_statement-returns-in-Grow g t c =
-    does-Grow c.args.statement.now (g.M.View.sight c.args.memory.now).value c.args.at.now c.child_of-here.result c.args.position (state_of (g.M.View.scope c.args.memory.now) (g.M.View.sight c.args.memory.now) (g.M.Memory.rest c.args.memory.now)) (state_of (g.M.View.scope c.grow.new.self) (g.M.View.sight c.grow.new.self) (g.M.Memory.rest c.grow.new.self)) c.grow.result c.child_of-here.ensures c.in-Grow.name c.in-Grow.by c.in-Grow.is c.grow.ensures
+    does-Grow c.args.statement.now (g.M.View.sight c.args.memory.now).value c.args.at.now c.child_of-here.result c.args.position (state_of (g.M.View.scope c.args.memory.now) (g.M.View.sight c.args.memory.now) (g.M.Memory.rest c.args.memory.now)) (state_of (g.M.View.scope c.grow.new.memory) (g.M.View.sight c.grow.new.memory) (g.M.Memory.rest c.grow.new.memory)) c.grow.result c.child_of-here.ensures c.in-Grow.name c.in-Grow.by c.in-Grow.is c.grow.ensures
 
 pub run_statement-returns-in-Ok-true : goal.run_statement-returns-in-Ok-true
 run_statement-returns-in-Ok-true g t c =
