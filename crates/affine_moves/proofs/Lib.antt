@@ -1,0 +1,6 @@
+pub mod Places
+pub mod Sizes
+pub mod Summing
+pub mod Holding
+pub mod Fitting
+pub mod Making
