@@ -1,9 +1,9 @@
 -- The piece of a change that suits a statement fits it.
-use Rattle.std.proofs.Common.{◌≡◌, ℕ, zero, suc, arith, ◌<◌, ◌≤◌, ◌+◌, ◌-◌, Bool, true, false, ◌&&◌, ◌||◌, not, cond, nat_eq, nat_lt, nat_le, List, [], ◌∷◌, ◌++◌, length, map, take, drop, replicate, refl, sym, ap, ◌∙◌, subst, ℤ, pos, get_or, length-append, length-take, length-drop, eq-eqb, le-leb}
-use Rattle.std.specs.Prelude.{IsTrue, Option, Some, None, slice_get, neg_ℤ, ◌-ℤ◌}
+use Rattle.std.proofs.Common.{◌≡◌, ℕ, zero, suc, arith, ◌<◌, ◌≤◌, ◌+◌, ◌-◌, Bool, true, false, ◌&&◌, ◌||◌, not, cond, nat_eq, nat_lt, nat_le, List, [], ◌∷◌, ◌++◌, length, map, replicate, refl, sym, ap, ◌∙◌, ℤ, pos, length-append, length-take, length-drop, eq-eqb, le-leb}
+use Rattle.std.specs.Prelude.{IsTrue, Some, slice_get, neg_ℤ, ◌-ℤ◌}
 use Rattle.std.specs.List.{list_all, range_with_len, AllByRecursion}
 use Rattle.std.proofs.Math.Facts.{leb_yes}
-use Rattle.std.proofs.lemmas.Bool.{cond_both, eqb-true}
+use Rattle.std.proofs.lemmas.Bool.{eqb-true}
 use Rattle.std.proofs.lemmas.Bool.Decides.{nat_tests}
 use Rattle.std.proofs.lemmas.List.{length-replicate, length-set}
 use Rattle.std.proofs.lemmas.List.FromFn.{length-map-range_with_len}
@@ -13,17 +13,15 @@ use Rattle.nest_tree.specs.declared.form.Form.{Form}
 use Rattle.nest_tree.specs.declared.kernel.Kernel.{Kernel}
 use Rattle.nest_tree.specs.declared.kernel.KernelRow.{KernelRow}
 use Rattle.nest_tree.specs.declared.kernel.Nest.{Nest}
-use Rattle.nest_tree.specs.declared.moves.Piece.{Piece}
-use Rattle.nest_core.specs.declared.form.Frame.{Frame}
-use Rattle.nest_core.specs.Forms.{has_vars, new_vars}
-use Rattle.nest_core.specs.Pieces.{frame_of, own_made, coefs_of, kept, last_held}
+use Rattle.nest_core.specs.Forms.{has_vars}
+use Rattle.nest_core.specs.Pieces.{frame_of, own_made, kept}
 use Rattle.nest_core.specs.Shapes.{vars_of, is_row_over, keeps_own, IsShapedNest, FitsNest, AllFit, IsShaped, Fits, count_pieces}
 use Rattle.affine_moves.specs.declared.change.Change.{Change}
 use Rattle.affine_moves.specs.declared.change.Change.TheVariants.{Stay, Order, Tile, Skew, Shift}
-use Rattle.affine_moves.specs.Change.{is_level, suits, place_of, new_depth, vars_after, padded, of_two, tile_rows, new_rows, new_levels, new_positions, old_form, piece_of}
+use Rattle.affine_moves.specs.Change.{suits, place_of, new_depth, vars_after, padded, of_two, tile_rows, new_rows, new_levels, new_positions, old_form, piece_of}
 use Rattle.affine_moves.specs.Moves.{pieces_of, moves_of, AllSuit}
 use Rattle.affine_moves.proofs.Places.{and, place_of-below}
-use Rattle.affine_moves.proofs.Holding.{HoldsOne, old_form-holds, last_held-level, length-padded}
+use Rattle.affine_moves.proofs.Holding.{old_form-holds, last_held-level, length-padded}
 
 length-new_levels : (c : Change) (fs : List Form) → IsTrue (suits (length fs) c) → length (new_levels fs c) ≡ new_depth c (length fs)
 unfolding new_levels

@@ -4,3 +4,5 @@ pub mod Summing
 pub mod Holding
 pub mod Fitting
 pub mod Making
+pub mod Orders
+pub mod Suiting

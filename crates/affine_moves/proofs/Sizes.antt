@@ -1,5 +1,5 @@
 -- The sizes of numbers of forms.
-use Rattle.std.proofs.Common.{◌≡◌, ◌≤◌, ◌<◌, ◌^◌, ◌+◌, ◌*◌, ℕ, ℤ, pos, ◌+ℤ◌, ◌*ℤ◌, unsigned_abs, true, arith, sym, ap, ◌∙◌, FitsSigned}
+use Rattle.std.proofs.Common.{◌≡◌, ◌≤◌, ◌^◌, ◌+◌, ◌*◌, ℕ, ℤ, ◌+ℤ◌, ◌*ℤ◌, unsigned_abs, true, arith}
 use Rattle.std.proofs.lemmas.Int.{ints, fits_signed_from_abs, unsigned_abs-mul}
 use Rattle.std.proofs.Math.Facts.{leb_yes}
 use Rattle.std.proofs.Math.Nat.{mul-le-mul}

@@ -1,5 +1,5 @@
 -- The steps of the loop that adds up levels.
-use Rattle.std.proofs.Common.{◌≡◌, ℕ, zero, suc, arith, ◌<◌, ◌≤◌, ◌+◌, ◌*◌, ◌^◌, List, [], ◌∷◌, drop, length, get_or, refl, sym, ap, ◌∙◌, drop-cons, add-one, ℤ, pos, Bool, true, false, cond}
+use Rattle.std.proofs.Common.{◌≡◌, ℕ, zero, suc, arith, ◌<◌, ◌≤◌, ◌+◌, List, [], ◌∷◌, drop, length, get_or, refl, sym, ap, ◌∙◌, drop-cons, add-one, ℤ, pos, false}
 use Rattle.std.specs.Prelude.{Option, Some, None, slice_get, unwrap_or, ◌-◌}
 use Rattle.std.specs.Ordering.{int_eq}
 use Rattle.std.proofs.lemmas.List.{drop_all}

@@ -1,8 +1,7 @@
 -- What a change of levels makes of a statement. Levels count from 1, places in lists from 0.
-use Rattle.std.specs.Prelude.{◌≡◌, ℕ, zero, suc, ◌+◌, ◌-◌, Bool, true, false, cond, not, ◌&&◌, nat_le, nat_lt, nat_eq, take, drop, List, [], ◌∷◌, ◌++◌, length, map, replicate, slice_set, slice_index_or, ℤ, pos, neg_ℤ, ◌+ℤ◌, ◌-ℤ◌, ◌*ℤ◌}
+use Rattle.std.specs.Prelude.{ℕ, suc, ◌+◌, ◌-◌, Bool, true, false, cond, ◌&&◌, nat_le, nat_lt, nat_eq, take, drop, List, [], ◌∷◌, ◌++◌, length, map, replicate, slice_set, slice_index_or, ℤ, pos, neg_ℤ, ◌-ℤ◌}
 use Rattle.std.specs.List.{list_all, range_with_len}
 use Rattle.int_rows.specs.declared.row.Aff.{Aff}
-use Rattle.int_rows.specs.declared.row.Row.{Row}
 use Rattle.nest_tree.specs.declared.form.Form.{Form}
 use Rattle.nest_tree.specs.declared.kernel.KernelRow.{KernelRow}
 use Rattle.nest_tree.specs.declared.kernel.Nest.{Nest}

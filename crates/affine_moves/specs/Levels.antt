@@ -1,5 +1,5 @@
 -- What the levels of a statement stand for that goes over a whole sparse matrix.
-use Rattle.std.specs.Prelude.{⊤, ◌≤◌, ℕ, zero, suc, ◌^◌, Bool, true, false, cond, ◌&&◌, ◌||◌, nat_le, List, [], ◌∷◌, ℤ, pos, ◌+ℤ◌, ◌*ℤ◌, unsigned_abs, Option, Some, None, slice_get, unwrap_or, ◌-◌}
+use Rattle.std.specs.Prelude.{⊤, ◌≤◌, ℕ, ◌^◌, Bool, cond, ◌&&◌, nat_le, List, [], ◌∷◌, ℤ, pos, ◌+ℤ◌, ◌*ℤ◌, unsigned_abs, Option, Some, None, slice_get, unwrap_or, ◌-◌}
 use Rattle.std.specs.Ordering.{int_eq}
 use Rattle.affine_moves.specs.declared.levels.Sum.{Sum}
 use Rattle.nest_tree.specs.declared.form.Form.{Form}

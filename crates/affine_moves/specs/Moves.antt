@@ -1,5 +1,5 @@
 -- The moves of a change, and the shapes that commands look for.
-use Rattle.std.specs.Prelude.{◌≡◌, ℕ, zero, suc, ◌+◌, ◌-◌, Bool, true, false, cond, not, ◌&&◌, ◌||◌, nat_le, nat_lt, nat_eq, max, take, IsTrue, ⊤, List, [], ◌∷◌, length, map, Result, Ok, Err, Option, Some, None, slice_get, ◌^◌, ℤ, pos, unsigned_abs}
+use Rattle.std.specs.Prelude.{ℕ, zero, suc, ◌+◌, ◌-◌, Bool, true, false, cond, not, ◌&&◌, ◌||◌, nat_le, nat_lt, nat_eq, max, take, IsTrue, ⊤, List, [], ◌∷◌, length, map, Result, Ok, Err, Option, Some, None, slice_get, ◌^◌, ℤ, pos, unsigned_abs}
 use Rattle.std.specs.Ordering.{int_eq}
 use Rattle.std.specs.List.{list_all, list_any, range_with_len}
 use Rattle.nest_tree.specs.declared.fault.ShapeWhy.{ShapeWhy}

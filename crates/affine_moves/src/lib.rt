@@ -5,4 +5,15 @@ mod change;
 mod form;
 mod levels;
 mod moves;
+mod order;
+mod permute;
 mod piece;
+mod shapes;
+mod shift;
+mod skew;
+mod tile;
+
+pub use permute::permute_moves;
+pub use shift::shift_moves;
+pub use skew::skew_moves;
+pub use tile::tile_moves;

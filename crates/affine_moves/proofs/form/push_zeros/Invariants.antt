@@ -1,4 +1,4 @@
-use Rattle.std.proofs.Common.{◌≡◌, ◌++◌, ℤ, pos, replicate}
+use Rattle.std.proofs.Common.{◌≡◌, ◌++◌, pos, replicate}
 use Rattle.affine_moves.proofs.form.push_zeros.Given as goal
 
 abbrev pub invariant-loop : goal.invariant-loop

@@ -1,4 +1,3 @@
-use Rattle.std.proofs.Common.{◌≡◌, pos}
 use Rattle.std.proofs.lemmas.Int.{to_z-of_z}
 use mir.Val.{SFits}
 use mir.Syntax.{w32}

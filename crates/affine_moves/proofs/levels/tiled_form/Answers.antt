@@ -1,7 +1,7 @@
-use Rattle.std.proofs.Common.{rules, ◌≡◌, ◌+◌, ◌*◌, ◌^◌, ◌≤◌, ◌∙◌, sym, ap, pos, ◌+ℤ◌, ◌*ℤ◌, unsigned_abs, arith, FitsSigned}
+use Rattle.std.proofs.Common.{rules, ◌^◌, ◌≤◌, ◌∙◌, sym, ap, pos, ◌*ℤ◌, unsigned_abs, arith}
 use Rattle.std.proofs.lemmas.Int.{ints, to_z-of_z, fits_signed_from_abs}
 use mir.Val.{SFits}
-use mir.Syntax.{w32, w64, w128}
+use mir.Syntax.{w64, w128}
 use Rattle.affine_moves.specs.Levels.{tiled_form}
 use Rattle.affine_moves.proofs.Sizes.{small_64, product-le}
 use Rattle.affine_moves.proofs.levels.tiled_form.Goals as goal

@@ -1,4 +1,4 @@
-use Rattle.affine_moves.proofs.Making.{pieces-none, pieces-shaped, pieces-suit, pieces-more, pieces-end}
+use Rattle.affine_moves.proofs.Making.{pieces-none, pieces-more}
 use Rattle.affine_moves.proofs.moves.make_pieces.Goals as goal
 
 pub loop-i-init : goal.loop-i-init
