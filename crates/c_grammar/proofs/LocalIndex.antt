@@ -1,6 +1,6 @@
 -- Readers of index expressions look at no more than the next token.
-use Rattle.std.specs.Prelude.{◌≡◌, ℕ, zero, suc, Bool, true, false, cond, List, [], ◌∷◌, Option, Some, None, Result, Ok, Err, ℤ, refl}
-use Rattle.std.proofs.Common.{sym, ◌∙◌, ap, subst, arith}
+use Rattle.std.specs.Prelude.{◌≡◌, ℕ, zero, suc, Bool, true, false, cond, List, [], ◌∷◌, Option, Some, None, Result, Ok, Err, ℤ, refl, ◌⊎◌}
+use Rattle.std.proofs.Common.{sym, ◌∙◌, ap, subst, inl, inr, arith}
 use Rattle.c_tokens.specs.declared.token.Sign.{Sign}
 use Rattle.c_tokens.specs.declared.token.Sign.TheVariants as s
 use Rattle.c_tokens.specs.declared.token.Token.{Token}
@@ -33,6 +33,16 @@ one_way s g o f e = by_test (is_sign s o) refl e
     by_test : (b : Bool) → is_sign s o ≡ b → cond b (Some g) None ≡ Some f → (is_sign s o ≡ true) × (g ≡ f)
     by_test true h e = (h, some_is e)
     by_test false h e = absurd cc
+
+pub two_ways : {A : Type 0} (s z : Sign) (g h : Reader A) (o : Option Token) (f : Reader A)
+    → cond (is_sign s o) (Some (skip >>= (λ _. g))) (cond (is_sign z o) (Some (skip >>= (λ _. h))) None) ≡ Some f
+    → ((is_sign s o ≡ true) × (f ≡ (skip >>= (λ _. g)))) ⊎ ((is_sign z o ≡ true) × (f ≡ (skip >>= (λ _. h))))
+two_ways s z g h o f e = by_test (is_sign s o) refl e
+  where
+    by_test : (b : Bool) → is_sign s o ≡ b → cond b (Some (skip >>= (λ _. g))) (cond (is_sign z o) (Some (skip >>= (λ _. h))) None) ≡ Some f
+        → ((is_sign s o ≡ true) × (f ≡ (skip >>= (λ _. g)))) ⊎ ((is_sign z o ≡ true) × (f ≡ (skip >>= (λ _. h))))
+    by_test true k e = inl (k, sym (some_is e))
+    by_test false k e = let w = one_way z (skip >>= (λ _. h)) o f e in inr (w.0, sym w.1)
 
 pub one_way_eats : {A : Type 0} (s : Sign) (g : Reader A) → IsLocal g → (ts : List Token) (f : Reader A) → cond (is_sign s (first ts)) (Some (skip >>= (λ _. g))) None ≡ Some f → Eats f ts
 one_way_eats s g h ts f e =

@@ -13,7 +13,7 @@ use Rattle.c_tree.specs.declared.program.Matrix.{Matrix}
 use Rattle.c_tokens.specs.Tokens.{Outcome, first, is_sign, sees, expect}
 use Rattle.c_grammar.specs.declared.pieces.Signature.{Signature}
 use Rattle.c_grammar.specs.Index.{Word}
-use Rattle.c_grammar.specs.Program.{loops, guards, executor, inspector, with_declared}
+use Rattle.c_grammar.specs.Program.{brackets, loops, guards, executor, inspector, with_declared}
 use Rattle.c_grammar.specs.Reader.{Reader, and_then, ◌>>=◌, ◌>>◌, pure, refuse, skip, many, name, word}
 use Rattle.c_grammar.specs.ReadIndex as index
 use Rattle.c_grammar.specs.ReadStatement as statement
@@ -29,24 +29,23 @@ further_name_local : IsLocal r.further_name
 unfolding r.further_name
 further_name_local = bind_local _ _ (expect_local s.Comma) (λ _. name_local)
 
-names_local : (k : Word → Word → Word → Word → Word → Word → Matrix)
-    → IsLocal (name >>= (λ index. r.further_name >>= (λ col. r.further_name >>= (λ value. r.further_name >>= (λ rows. r.further_name >>= (λ cols. r.further_name >>= (λ count.
-    expect s.Close >>= (λ _. pure (k index col value rows cols count)))))))))
-names_local k =
+names_local : IsLocal r.names
+unfolding r.names
+names_local =
     bind_local _ _ name_local (λ index. bind_local _ _ further_name_local (λ col. bind_local _ _ further_name_local (λ value. bind_local _ _ further_name_local (λ rows.
-    bind_local _ _ further_name_local (λ cols. bind_local _ _ further_name_local (λ count. bind_local _ _ (expect_local s.Close) (λ _. pure_local (k index col value rows cols count))))))))
+    bind_local _ _ further_name_local (λ cols. bind_local _ _ further_name_local (λ count. bind_local _ _ (expect_local s.Close) (λ _. pure_local (record { index = index; col = col; value = value; rows = rows; cols = cols; count = count }))))))))
 
 pub matrix_local : IsLocal r.matrix
 unfolding r.matrix
 matrix_local =
     bind_local _ _ (expect_local s.Pragma) (λ _. bind_local _ _ (word_local (codes "sparse")) (λ _. bind_local _ _ (word_local (codes "csr")) (λ _. bind_local _ _ (expect_local s.Open) (λ _.
-    names_local (λ index col value rows cols count. record { index = index; col = col; value = value; rows = rows; cols = cols; count = count })))))
+    names_local))))
 
 pub matrix_eager : IsEager r.matrix
 unfolding r.matrix
 matrix_eager =
     bind_eager _ _ (expect_eager s.Pragma) (λ _. bind_local _ _ (word_local (codes "sparse")) (λ _. bind_local _ _ (word_local (codes "csr")) (λ _. bind_local _ _ (expect_local s.Open) (λ _.
-    names_local (λ index col value rows cols count. record { index = index; col = col; value = value; rows = rows; cols = cols; count = count })))))
+    names_local))))
 
 further_matrix : (xs : List Matrix) → IsLocal (r.matrix >>= (λ x. pure (xs ++ x ∷ [])))
 further_matrix xs = bind_local r.matrix _ matrix_local (λ x. pure_local (xs ++ x ∷ []))
@@ -194,10 +193,15 @@ executed_local b = statements_local executor b (statement.statement executor b) 
 
 -- ---- programs
 
+procedure_local : (ms : List Matrix) (x : Word) → IsLocal (r.procedure ms x)
+unfolding r.procedure
+procedure_local ms x =
+    bind_local (r.parameters brackets) _ (parameters_local brackets) (λ found. bind_local _ _ (expect_local s.Close) (λ _. bind_local _ _ (expect_local s.OpenBrace) (λ _.
+    bind_local (r.inspector_if_any brackets) _ (inspector_if_any_local brackets) (λ inspector. bind_local (r.executed (suc brackets)) _ (executed_local (suc brackets)) (λ executor.
+    bind_local _ _ (expect_local s.CloseBrace) (λ _.
+    pure_local (record { name = x; matrices = ms; params = found.params; arrays = found.arrays; inspector = inspector; executor = executor })))))))
+
 pub program_local : IsLocal r.program
 unfolding r.program
 program_local =
-    bind_local r.matrices _ matrices_local (λ matrices. bind_local _ _ (expect_local s.Void) (λ _. bind_local _ _ name_local (λ x. bind_local _ _ (expect_local s.Open) (λ _.
-    bind_local (r.parameters 254) _ (parameters_local 254) (λ found. bind_local _ _ (expect_local s.Close) (λ _. bind_local _ _ (expect_local s.OpenBrace) (λ _.
-    bind_local (r.inspector_if_any 254) _ (inspector_if_any_local 254) (λ inspector. bind_local (r.executed 255) _ (executed_local 255) (λ executor. bind_local _ _ (expect_local s.CloseBrace) (λ _.
-    pure_local (record { name = x; matrices = matrices; params = found.params; arrays = found.arrays; inspector = inspector; executor = executor })))))))))))
+    bind_local r.matrices _ matrices_local (λ ms. bind_local _ _ (expect_local s.Void) (λ _. bind_local _ _ name_local (λ x. bind_local _ _ (expect_local s.Open) (λ _. procedure_local ms x))))

@@ -4,6 +4,7 @@ use Rattle.std.proofs.Common.{subst}
 use Rattle.c_tokens.specs.declared.token.Sign.{Sign}
 use Rattle.c_tokens.specs.declared.token.Sign.TheVariants as s
 use Rattle.c_tokens.specs.declared.token.Token.{Token}
+use Rattle.c_tree.specs.declared.index.Index.{Index}
 use Rattle.c_tree.specs.declared.index.Subscripts.{Subscripts}
 use Rattle.c_tree.specs.declared.statement.Cmp.{Cmp}
 use Rattle.c_tree.specs.declared.statement.Cmp.TheVariants as cmp
@@ -65,13 +66,21 @@ pub tests_local : (b : ℕ) → IsLocal (r.tests b)
 unfolding r.tests
 tests_local b = bind_local (r.test b) (λ x. many (r.next_test b) (x ∷ [])) (test_local b) (λ x. many_local (r.next_test b) (next_test_eats b) (next_test_local b) (x ∷ []))
 
+upper_local : (b : ℕ) (v : Word) (low : Index) → IsLocal (r.upper b v low)
+unfolding r.upper
+upper_local b v low =
+    bind_local _ _ (index_local b) (λ high. bind_local _ _ (expect_local s.Semicolon) (λ _. bind_local _ _ (word_local v) (λ _. bind_local _ _ (expect_local s.Increment) (λ _.
+    bind_local _ _ (expect_local s.Close) (λ _. pure_local (record { var = v; low = low; high = high }))))))
+
+lower_local : (b : ℕ) (v : Word) → IsLocal (r.lower b v)
+unfolding r.lower
+lower_local b v =
+    bind_local _ _ (index_local b) (λ low. bind_local _ _ (expect_local s.Semicolon) (λ _. bind_local _ _ (word_local v) (λ _. bind_local _ _ (expect_local s.Less) (λ _. upper_local b v low))))
+
 pub range_local : (b : ℕ) → IsLocal (r.range b)
 unfolding r.range
 range_local b =
-    bind_local _ _ (expect_local s.Open) (λ _. bind_local _ _ (expect_local s.Int64) (λ _. bind_local _ _ name_local (λ v. bind_local _ _ (expect_local s.Assign) (λ _.
-    bind_local _ _ (index_local b) (λ low. bind_local _ _ (expect_local s.Semicolon) (λ _. bind_local _ _ (word_local v) (λ _. bind_local _ _ (expect_local s.Less) (λ _.
-    bind_local _ _ (index_local b) (λ high. bind_local _ _ (expect_local s.Semicolon) (λ _. bind_local _ _ (word_local v) (λ _. bind_local _ _ (expect_local s.Increment) (λ _.
-    bind_local _ _ (expect_local s.Close) (λ _. pure_local (record { var = v; low = low; high = high }))))))))))))))
+    bind_local _ _ (expect_local s.Open) (λ _. bind_local _ _ (expect_local s.Int64) (λ _. bind_local _ _ name_local (λ v. bind_local _ _ (expect_local s.Assign) (λ _. lower_local b v))))
 
 after_grow_local : (b : ℕ) → IsLocal (expect s.Open >>= (λ _. name >>= (λ x. expect s.Comma >>= (λ _. index.index b >>= (λ by. expect s.Close >>= (λ _. expect s.Semicolon >>= (λ _. pure (stmt.Grow x by))))))))
 after_grow_local b =

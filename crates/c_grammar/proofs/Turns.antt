@@ -1,11 +1,11 @@
 -- Pieces that follow one another, turn by turn.
 use Rattle.std.specs.Prelude.{◌≡◌, ℕ, zero, suc, ◌+◌, ◌<◌, ◌≤◌, List, [], ◌∷◌, ◌++◌, length, Option, Some, None, Result, Ok, Err, refl}
-use Rattle.std.proofs.Common.{sym, ◌∙◌, ap, arith}
+use Rattle.std.proofs.Common.{sym, ◌∙◌, ap, subst, arith}
 use Rattle.std.proofs.lemmas.List.{append_cancel_right}
 use Rattle.c_tokens.specs.declared.token.Token.{Token}
 use Rattle.c_tokens.specs.Tokens.{Outcome, first}
 use Rattle.c_grammar.specs.Reader.{Reader, and_then, turn, turns, many}
-use Rattle.c_grammar.proofs.Local.{Local, IsLocal, Eats, stands, moved, bind_at, kept_first}
+use Rattle.c_grammar.proofs.Local.{Local, IsLocal, Eats, stands, moved, bind_at, kept_first, bound, value_is}
 
 -- each further piece begins with a token
 abbrev pub IsEating : {A : Type 0} → (A → Option Token → Option (Reader A)) → Type 0
@@ -80,3 +80,24 @@ module _ {A : Type 0} (next : A → Option Token → Option (Reader A)) (eats : 
             ∙ large.same x after more (stood ∙ e)
             ∙ ap (λ o. moved o (x ∷ more)) enough;
       }
+
+-- ---- what each turn keeps, the last one leaves
+
+module _ {A : Type 0} (next : A → Option Token → Option (Reader A)) (P : A → List Token → Type 0) where
+  abbrev pub IsKept : Type 0
+  IsKept = (a : A) (us : List Token) (f : Reader A) (b : A) (after : List Token) → P a us → next a (first us) ≡ Some f → f us ≡ Ok (b, after) → P b after
+
+  turns_keep : IsKept → (n : ℕ) (a : A) (us : List Token) (b : A) (after : List Token) → P a us → turns next n a us ≡ Ok (b, after) → P b after
+  unfolding turns
+  turns_keep keeps zero a us b after p e = let v = value_is _ _ _ _ e in subst (λ z. P b z) v.1 (subst (λ z. P z us) v.0 p)
+  turns_keep keeps (suc n) a us b after p e = by_next (λ c vs q h. turns_keep keeps n c vs b after q h) (next a (first us)) refl e
+    where
+      by_next : ((c : A) (vs : List Token) → P c vs → turns next n c vs ≡ Ok (b, after) → P b after) → (o : Option (Reader A)) → next a (first us) ≡ o → turn o (turns next n) a us ≡ Ok (b, after) → P b after
+      by_next again None h e = let v = value_is _ _ _ _ e in subst (λ z. P b z) v.1 (subst (λ z. P z us) v.0 p)
+      by_next again (Some f) h e =
+          let q = bound (f us) (turns next n) b after e in
+          again q.value q.left (keeps a us f q.value q.left p h q.first) q.second
+
+  pub many_keep : IsKept → (a : A) (us : List Token) (b : A) (after : List Token) → P a us → many next a us ≡ Ok (b, after) → P b after
+  unfolding many
+  many_keep keeps a us b after p e = turns_keep keeps (suc (length us)) a us b after p e

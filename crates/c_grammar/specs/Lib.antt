@@ -7,3 +7,4 @@ pub mod ReadIndex
 pub mod ReadData
 pub mod ReadStatement
 pub mod ReadProgram
+pub mod Texts

@@ -15,15 +15,17 @@ use Rattle.c_grammar.specs.declared.pieces.Section.{Section}
 use Rattle.c_grammar.specs.Index.{Word, IsIndex, IsSubscript}
 use Rattle.c_grammar.specs.Statement.{IsStatement, AreStatements}
 
--- how many brackets, loops and guards may stand around one place
-abbrev pub brackets : ℕ
-brackets = 256
-
+-- how many loops and guards may stand around one place
 abbrev pub loops : ℕ
 loops = 8
 
 abbrev pub guards : ℕ
 guards = 16
+
+-- Of the 256 brackets that may stand around one place, those of the parameters and an extent, or of the procedure and
+-- a statement, are two. So many may be opened inside them.
+abbrev pub brackets : ℕ
+brackets = 254
 
 -- ---- matrices
 
@@ -70,21 +72,21 @@ pub data AreParameters : ℕ → List Token → List Word → List Array → Lis
 
 -- ---- sections
 
--- `INDEX1(x);` and its like
+-- `INDEX1(x);` and its like. So many brackets may still be opened inside its own.
 pub data IsDeclaration : ℕ → List Token → Word → Kind → List Index → List Token → Type 0 where
   index1 : {b : ℕ} {x : Word} {after : List Token}
-      → IsDeclaration (suc b) (t.Sign s.Index1 ∷ t.Sign s.Open ∷ t.Name x ∷ t.Sign s.Close ∷ t.Sign s.Semicolon ∷ after) x kind.Position [] after
+      → IsDeclaration b (t.Sign s.Index1 ∷ t.Sign s.Open ∷ t.Name x ∷ t.Sign s.Close ∷ t.Sign s.Semicolon ∷ after) x kind.Position [] after
   index2 : {b : ℕ} {x : Word} {ts after : List Token} {i : Index}
       → IsIndex b ts i (t.Sign s.Close ∷ t.Sign s.Semicolon ∷ after)
-      → IsDeclaration (suc b) (t.Sign s.Index2 ∷ t.Sign s.Open ∷ t.Name x ∷ t.Sign s.Comma ∷ ts) x kind.Position (i ∷ []) after
+      → IsDeclaration b (t.Sign s.Index2 ∷ t.Sign s.Open ∷ t.Name x ∷ t.Sign s.Comma ∷ ts) x kind.Position (i ∷ []) after
   data1 : {b : ℕ} {x : Word} {after : List Token}
-      → IsDeclaration (suc b) (t.Sign s.Data1 ∷ t.Sign s.Open ∷ t.Name x ∷ t.Sign s.Close ∷ t.Sign s.Semicolon ∷ after) x kind.Number [] after
+      → IsDeclaration b (t.Sign s.Data1 ∷ t.Sign s.Open ∷ t.Name x ∷ t.Sign s.Close ∷ t.Sign s.Semicolon ∷ after) x kind.Number [] after
   data2 : {b : ℕ} {x : Word} {ts after : List Token} {i : Index}
       → IsIndex b ts i (t.Sign s.Close ∷ t.Sign s.Semicolon ∷ after)
-      → IsDeclaration (suc b) (t.Sign s.Data2 ∷ t.Sign s.Open ∷ t.Name x ∷ t.Sign s.Comma ∷ ts) x kind.Number (i ∷ []) after
+      → IsDeclaration b (t.Sign s.Data2 ∷ t.Sign s.Open ∷ t.Name x ∷ t.Sign s.Comma ∷ ts) x kind.Number (i ∷ []) after
   data3 : {b : ℕ} {x : Word} {ts us after : List Token} {i j : Index}
       → IsIndex b ts i (t.Sign s.Comma ∷ us) → IsIndex b us j (t.Sign s.Close ∷ t.Sign s.Semicolon ∷ after)
-      → IsDeclaration (suc b) (t.Sign s.Data3 ∷ t.Sign s.Open ∷ t.Name x ∷ t.Sign s.Comma ∷ ts) x kind.Number (i ∷ j ∷ []) after
+      → IsDeclaration b (t.Sign s.Data3 ∷ t.Sign s.Open ∷ t.Name x ∷ t.Sign s.Comma ∷ ts) x kind.Number (i ∷ j ∷ []) after
 
 abbrev pub executor : Section
 executor = record { is_inspector = false; growable = [] }
@@ -98,10 +100,11 @@ abbrev pub with_declared : Kind → Word → List Word → List Word
 with_declared kind.Position x names = names ++ x ∷ []
 with_declared kind.Number x names = names
 
--- a statement or a declaration, with the growable index arrays before and behind it
+-- A statement or a declaration, with the growable index arrays before and behind it. So many brackets may still be
+-- opened inside one of its own.
 pub data IsItem : ℕ → List Word → List Token → Stmt → List Word → List Token → Type 0 where
   statement : {b : ℕ} {names : List Word} {ts after : List Token} {x : Stmt}
-      → IsStatement (inspector names) b loops guards ts x after → IsItem b names ts x names after
+      → IsStatement (inspector names) (suc b) loops guards ts x after → IsItem b names ts x names after
   declaration : {b : ℕ} {names : List Word} {ts after : List Token} {x : Word} {k : Kind} {inner : List Index}
       → IsDeclaration b ts x k inner after → IsItem b names ts (stmt.Declare x k inner) (with_declared k x names) after
 
@@ -113,10 +116,10 @@ pub data AreItems : ℕ → List Word → List Token → List Stmt → List Word
 
 -- statements, or an inspector and an executor
 pub data AreSections : ℕ → List Token → List Stmt → List Stmt → List Token → Type 0 where
-  alone : {b : ℕ} {ts after : List Token} {xs : List Stmt} → AreStatements executor b loops guards ts xs after → AreSections b ts [] xs after
+  alone : {b : ℕ} {ts after : List Token} {xs : List Stmt} → AreStatements executor (suc b) loops guards ts xs after → AreSections b ts [] xs after
   both : {b : ℕ} {ts us after : List Token} {xs ys : List Stmt} {behind : List Word}
       → AreItems b [] ts xs behind (t.Sign s.Pragma ∷ t.Name (codes "sparse") ∷ t.Name (codes "executor") ∷ us)
-      → AreStatements executor b loops guards us ys after
+      → AreStatements executor (suc b) loops guards us ys after
       → AreSections b (t.Sign s.Pragma ∷ t.Name (codes "sparse") ∷ t.Name (codes "inspector") ∷ ts) xs ys after
 
 -- ---- programs
@@ -125,6 +128,6 @@ pub data AreSections : ℕ → List Token → List Stmt → List Stmt → List T
 pub data IsProgram : List Token → Program → Type 0 where
   program : {x : Word} {ts us vs : List Token} {matrices : List Matrix} {params : List Word} {arrays : List Array} {inspector executor : List Stmt}
       → AreMatrices ts matrices (t.Sign s.Void ∷ t.Name x ∷ t.Sign s.Open ∷ us)
-      → AreParameters 254 us params arrays (t.Sign s.Close ∷ t.Sign s.OpenBrace ∷ vs)
-      → AreSections 255 vs inspector executor (t.Sign s.CloseBrace ∷ [])
+      → AreParameters brackets us params arrays (t.Sign s.Close ∷ t.Sign s.OpenBrace ∷ vs)
+      → AreSections brackets vs inspector executor (t.Sign s.CloseBrace ∷ [])
       → IsProgram ts (record { name = x; matrices = matrices; params = params; arrays = arrays; inspector = inspector; executor = executor })

@@ -14,7 +14,7 @@ use Rattle.c_tokens.specs.Tokens.{Outcome, first, is_sign, sees, expect}
 use Rattle.c_grammar.specs.declared.pieces.Section.{Section}
 use Rattle.c_grammar.specs.declared.pieces.Signature.{Signature}
 use Rattle.c_grammar.specs.Index.{Word}
-use Rattle.c_grammar.specs.Program.{loops, guards, executor, inspector, with_declared}
+use Rattle.c_grammar.specs.Program.{brackets, loops, guards, executor, inspector, with_declared}
 use Rattle.c_grammar.specs.Reader.{Reader, and_then, ◌>>=◌, ◌>>◌, pure, refuse, skip, many, name, word}
 use Rattle.c_grammar.specs.ReadIndex as index
 use Rattle.c_grammar.specs.ReadStatement as statement
@@ -24,12 +24,9 @@ use Rattle.c_grammar.specs.ReadStatement as statement
 unfoldable pub further_name : Reader Word
 further_name = expect s.Comma >> name
 
-unfoldable pub matrix : Reader Matrix
-matrix = do
-  expect s.Pragma
-  word (codes "sparse")
-  word (codes "csr")
-  expect s.Open
+-- the six names of a matrix
+unfoldable pub names : Reader Matrix
+names = do
   index ← name
   col ← further_name
   value ← further_name
@@ -38,6 +35,14 @@ matrix = do
   count ← further_name
   expect s.Close
   pure (record { index = index; col = col; value = value; rows = rows; cols = cols; count = count })
+
+unfoldable pub matrix : Reader Matrix
+matrix = do
+  expect s.Pragma
+  word (codes "sparse")
+  word (codes "csr")
+  expect s.Open
+  names
 
 abbrev pub next_matrix : List Matrix → Option Token → Option (Reader (List Matrix))
 next_matrix xs token = if is_sign s.Pragma token then Some (do x ← matrix; pure (xs ++ x ∷ [])) else None
@@ -173,16 +178,21 @@ executed b = statement.statements executor b loops guards
 
 -- ---- programs
 
+-- what follows the bracket behind a procedure's name
+unfoldable pub procedure : List Matrix → Word → Reader Program
+procedure matrices x = do
+  found ← parameters brackets
+  expect s.Close
+  expect s.OpenBrace
+  inspector ← inspector_if_any brackets
+  executor ← executed (suc brackets)
+  expect s.CloseBrace
+  pure (record { name = x; matrices = matrices; params = found.params; arrays = found.arrays; inspector = inspector; executor = executor })
+
 unfoldable pub program : Reader Program
 program = do
   matrices ← matrices
   expect s.Void
   x ← name
   expect s.Open
-  found ← parameters 254
-  expect s.Close
-  expect s.OpenBrace
-  inspector ← inspector_if_any 254
-  executor ← executed 255
-  expect s.CloseBrace
-  pure (record { name = x; matrices = matrices; params = found.params; arrays = found.arrays; inspector = inspector; executor = executor })
+  procedure matrices x

@@ -53,22 +53,32 @@ tests b = do
   x ← test b
   many (next_test b) (x ∷ [])
 
-unfoldable pub range : ℕ → Reader Range
-range b = do
-  expect s.Open
-  expect s.Int64
-  v ← name
-  expect s.Assign
-  low ← index.index b
-  expect s.Semicolon
-  word v
-  expect s.Less
+-- the upper bound of a loop, and the step
+unfoldable pub upper : ℕ → Word → Index → Reader Range
+upper b v low = do
   high ← index.index b
   expect s.Semicolon
   word v
   expect s.Increment
   expect s.Close
   pure (record { var = v; low = low; high = high })
+
+-- the lower bound, and what follows
+unfoldable pub lower : ℕ → Word → Reader Range
+lower b v = do
+  low ← index.index b
+  expect s.Semicolon
+  word v
+  expect s.Less
+  upper b v low
+
+unfoldable pub range : ℕ → Reader Range
+range b = do
+  expect s.Open
+  expect s.Int64
+  v ← name
+  expect s.Assign
+  lower b v
 
 unfoldable pub growth : ℕ → Reader Stmt
 growth b = do

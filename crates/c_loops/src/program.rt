@@ -15,7 +15,7 @@ use std::alloc::Global;
 const BRACKETS: u16 = 256;
 
 /// The longest program at the front.
-#[tactic(auto, unfolding(c_grammar::specs::ReadProgram::program))]
+#[tactic(auto, unfolding(c_grammar::specs::ReadProgram::program, c_grammar::specs::ReadProgram::procedure))]
 pub fn program(alloc: Global, tokens: &mut Tokens<'_>) -> Result<Program, Halt>
     ensures { Reads (spec.program tokens.old) result tokens.new }
 {

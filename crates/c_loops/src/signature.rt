@@ -20,7 +20,7 @@ fn further_name(tokens: &mut Tokens<'_>) -> Result<Name, Halt>
     name(tokens)
 }
 
-#[tactic(auto, unfolding(c_grammar::specs::ReadProgram::matrix))]
+#[tactic(auto, unfolding(c_grammar::specs::ReadProgram::matrix, c_grammar::specs::ReadProgram::names))]
 fn matrix(tokens: &mut Tokens<'_>) -> Result<Matrix, Halt>
     ensures { Reads (spec.matrix tokens.old) result tokens.new }
 {

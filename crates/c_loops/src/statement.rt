@@ -78,7 +78,7 @@ fn tests(alloc: Global, tokens: &mut Tokens<'_>, brackets: u16) -> Result<List<T
 }
 
 // `(int64_t v = low; v < high; v++)`, where the three names are one.
-#[tactic(auto, unfolding(c_grammar::specs::ReadStatement::range))]
+#[tactic(auto, unfolding(c_grammar::specs::ReadStatement::range, c_grammar::specs::ReadStatement::lower, c_grammar::specs::ReadStatement::upper))]
 fn range(alloc: Global, tokens: &mut Tokens<'_>, brackets: u16) -> Result<Range, Halt>
     ensures { Reads (spec.range brackets tokens.old) result tokens.new }
 {
