@@ -1,13 +1,13 @@
 -- The definitions at each kind of index expression.
-use Rattle.std.proofs.Common.{ℕ, ◌≡◌, refl, ℤ, pos, int_le, nat_eq, Bool, true, ◌&&◌, List, [], ◌∷◌, ap, ◌∙◌, Ok}
-use Rattle.c_tree.specs.declared.index.Index.{Index, Index-F, fold-Index, fold_out-Index, map-Index, out-Index}
+use Rattle.std.proofs.Common.{ℕ, ◌≡◌, ℤ, pos, int_le, nat_eq, true, ◌&&◌, ap, ◌∙◌, Ok}
+use Rattle.c_tree.specs.declared.index.Index.{Index, Index-F, fold_out-Index, map-Index, out-Index}
 use Rattle.c_tree.specs.declared.index.Index.TheVariants.{Const, Var, At, Neg, Plus, Minus, Times, Min, Max, Floor, Ceil, outs-Const, outs-Var, outs-At, outs-Neg, outs-Plus, outs-Minus, outs-Times, outs-Min, outs-Max, outs-Floor, outs-Ceil}
-use Rattle.c_tree.specs.declared.index.Subscripts.{Subscripts, Subscripts-F, map-Subscripts, fold-Subscripts, fold_out-Subscripts, out-Subscripts}
+use Rattle.c_tree.specs.declared.index.Subscripts.{Subscripts, Subscripts-F, map-Subscripts, fold_out-Subscripts, out-Subscripts}
 use Rattle.c_tree.specs.declared.index.Subscripts.TheVariants.{One, Two, Three, outs-One, outs-Two, outs-Three}
-use Rattle.c_tree.specs.declared.index.Cell.{Cell, fold-Cell, fold_out-Cell, out-Cell}
+use Rattle.c_tree.specs.declared.index.Cell.{Cell, fold_out-Cell}
 use Rattle.c_meaning.specs.Names.{Name}
-use Rattle.c_meaning.specs.Weighed.{Weighed, plain, negated, sum_of, difference_of, multiple_of, lesser_of, greater_of, floor_of, ceil_of}
-use Rattle.c_meaning.specs.Value.{Sight, Answer, ◌>>=◌, Meaning, SubscriptsMeaning, CellMeaning, measure, subscripts_of, three_answers, cell_value, value_of, index_layer, subscripts_layer, cell_layer, on_one, on_two, plain_answer, held, cell_seen}
+use Rattle.c_meaning.specs.Weighed.{plain, negated, sum_of, difference_of, multiple_of, lesser_of, greater_of, floor_of, ceil_of}
+use Rattle.c_meaning.specs.Value.{Sight, ◌>>=◌, Meaning, SubscriptsMeaning, CellMeaning, measure, subscripts_of, three_answers, cell_value, value_of, index_layer, subscripts_layer, cell_layer, on_one, on_two, plain_answer, held, cell_seen}
 use Rattle.c_meaning.specs.Scope.{Scope, Fit, SubscriptsFit, fits, subscripts_fit, cell_fits, fit_layer, subscripts_fit_layer, cell_fit_layer}
 
 pub measure_at : (e : Index) (d : Index-F Index Subscripts Cell) → out-Index e ≡ d → (s : Sight) → measure e s ≡ index_layer (map-Index Index Subscripts Cell Meaning SubscriptsMeaning CellMeaning measure subscripts_of cell_value d) s

@@ -1,5 +1,5 @@
 -- What fits a scope has parts that fit it.
-use Rattle.std.proofs.Common.{ℕ, ◌<◌, ◌≡◌, refl, ℤ, pos, int_le, nat_eq, Bool, true, false, ◌&&◌, ap, sym, ◌∙◌, arith}
+use Rattle.std.proofs.Common.{ℕ, ◌≡◌, refl, ℤ, pos, int_le, nat_eq, Bool, true, false, ◌&&◌, ap, sym, ◌∙◌}
 use Rattle.c_tree.specs.declared.index.Index.{Index}
 use Rattle.c_tree.specs.declared.index.Index.TheVariants.{Var, At, Neg, Plus, Minus, Times, Min, Max, Floor, Ceil}
 use Rattle.c_tree.specs.declared.index.Subscripts.{Subscripts}

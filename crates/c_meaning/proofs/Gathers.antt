@@ -1,10 +1,10 @@
 -- The right parts of a sum, gathered.
-use Rattle.std.proofs.Common.{ℕ, ◌+◌, ◌≡◌, refl, sym, ap, ◌∙◌, ℤ, pos, ◌+ℤ◌, ◌-ℤ◌, neg_ℤ, Option, Ok, Err, arith, Bool, true, false, ◌&&◌}
+use Rattle.std.proofs.Common.{ℕ, ◌+◌, ◌≡◌, refl, sym, ap, ◌∙◌, ℤ, pos, ◌+ℤ◌, ◌-ℤ◌, neg_ℤ, Option, Ok, Err, arith}
 use Rattle.std.proofs.lemmas.Int.{ints}
 use Rattle.c_tree.specs.declared.index.Index.{Index}
 use Rattle.c_tree.specs.declared.index.Index.TheVariants.{Plus, Minus}
 use Rattle.c_meaning.specs.Weighed.{Weighed, plain, negated, sum_of, difference_of}
-use Rattle.c_meaning.specs.Value.{Sight, Answer, ◌>>=◌, measure, on_one, on_two}
+use Rattle.c_meaning.specs.Value.{Sight, Answer, measure, on_one, on_two}
 use Rattle.c_meaning.specs.Capped.{cap}
 use Rattle.c_meaning.proofs.Equations.{measure-Plus, measure-Minus}
 

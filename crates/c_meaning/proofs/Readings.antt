@@ -1,5 +1,5 @@
 -- Subscripts that were evaluated, and the cell that they name.
-use Rattle.std.proofs.Common.{ℕ, ◌<◌, ◌≡◌, refl, sym, ap, ◌∙◌, ℤ, pos, nat_eq, Bool, true, false, ◌&&◌, List, Option, Some, None, Ok, Err, arith}
+use Rattle.std.proofs.Common.{ℕ, ◌<◌, ◌≡◌, refl, sym, ap, ◌∙◌, ℤ, pos, nat_eq, Bool, true, ◌&&◌, List, Option, Some, None, Ok, Err, arith}
 use Rattle.c_tree.specs.declared.index.Index.{Index}
 use Rattle.c_tree.specs.declared.index.Subscripts.{Subscripts, Subscripts-F, out-Subscripts}
 use Rattle.c_tree.specs.declared.index.Index.TheOpen.{One as OneOf, Two as TwoOf, Three as ThreeOf}

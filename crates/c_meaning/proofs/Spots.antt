@@ -1,5 +1,5 @@
 -- Cells that are written one behind the other, and steps that may change places.
-use Rattle.std.proofs.Common.{ℕ, ◌+◌, ◌-◌, ◌*◌, ◌%◌, ◌^◌, ℤ, ◌≡◌, refl, sym, ◌∙◌, ap, Bool, true, false, not, ◌&&◌, ◌||◌, List, [], ◌∷◌, ◌++◌, arith, if◌then◌else◌, subst}
+use Rattle.std.proofs.Common.{ℕ, ◌+◌, ◌-◌, ◌*◌, ◌^◌, ℤ, ◌≡◌, refl, sym, ◌∙◌, ap, Bool, true, false, not, ◌&&◌, ◌||◌, List, [], ◌∷◌, ◌++◌, arith, if◌then◌else◌, subst}
 use Rattle.std.proofs.Math.Nat.{mod-add-mod}
 use Rattle.std.specs.Cmp.Rules.{signed_items}
 use Rattle.std.proofs.lemmas.Slice.Eq.{bytes_eq-Decides}
@@ -79,9 +79,9 @@ writes_apart s x y v w h = pointwise_equal _ _ (λ z. apart s x y v w h z _ _ re
 write_over : (s : Cells) (x : Spot) (v w : ℕ) → written (written s x v) x w ≡ written s x w
 write_over s x v w = pointwise_equal _ _ (λ z. over (same_spot x z) (s z))
   where
-  over : (b : Bool) (n : ℕ) → (if b then w else (if b then v else n)) ≡ (if b then w else n)
-  over true n = refl
-  over false n = refl
+    over : (b : Bool) (n : ℕ) → (if b then w else (if b then v else n)) ≡ (if b then w else n)
+    over true n = refl
+    over false n = refl
 
 wrapped-add : (m n : ℕ) → wrapped (wrapped m + n) ≡ wrapped (m + n)
 wrapped-add m n = mod-add-mod m (2 ^ 64) n

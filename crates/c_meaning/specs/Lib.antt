@@ -9,4 +9,6 @@ pub mod Ground
 pub mod Listing
 pub mod Order
 pub mod Run
+pub mod Executors
 pub mod Programs
+pub mod Examples

@@ -1,10 +1,9 @@
 -- What an executor performs: its assignments with their places, and the fault that ends them, if one does.
 -- Parameters, loop variables, index arrays and extents don't change in an executor, so no state of data arrays is needed.
-use Rattle.std.specs.Prelude.{ℕ, zero, suc, ◌+◌, ℤ, pos, negsuc, ◌+ℤ◌, ◌-ℤ◌, Bool, true, false, List, [], ◌∷◌, ◌++◌, map, if◌then◌else◌, Option, Some, None, Ok, Err}
+use Rattle.std.specs.Prelude.{ℕ, zero, suc, ◌+◌, ℤ, pos, negsuc, ◌+ℤ◌, ◌-ℤ◌, Bool, List, [], ◌∷◌, ◌++◌, map, if◌then◌else◌, Option, Some, None, Ok, Err}
 use Rattle.c_tree.specs.declared.index.Cell.{Cell}
 use Rattle.c_tree.specs.declared.index.Index.{Index}
 use Rattle.c_tree.specs.declared.statement.How.{How}
-use Rattle.c_tree.specs.declared.statement.Test.{Test}
 use Rattle.c_tree.specs.declared.data.Expr.{Expr, fold-Expr}
 use Rattle.c_tree.specs.declared.data.Expr.TheOpen.{Expr-F, Const, At, Plus, Minus, Times}
 use Rattle.c_tree.specs.declared.statement.Stmt.{Stmt, fold-Stmt}

@@ -1,5 +1,5 @@
 -- Which elements are in a list, and which stands before which.
-use Rattle.std.specs.Prelude.{◌≡◌, ◌⊎◌, Bool, true, List, [], ◌∷◌}
+use Rattle.std.specs.Prelude.{◌≡◌, ◌⊎◌, true, List, [], ◌∷◌}
 use Rattle.c_meaning.specs.Ground.{Step, conflicts}
 use Rattle.c_meaning.specs.Listing.{Item}
 

@@ -1,12 +1,11 @@
 -- The run of a program on an input.
-use Rattle.std.specs.Prelude.{◌≡◌, ◌&&◌, Bool, true, false, List, [], ◌∷◌, ℤ, Option, None}
+use Rattle.std.specs.Prelude.{◌≡◌, Bool, true, false, List, ℤ, None}
 use Rattle.std.specs.List.{AllByRecursion, list_all}
 use Rattle.c_tree.specs.declared.program.Array.{Array}
 use Rattle.c_tree.specs.declared.program.Program.{Program}
 use Rattle.c_tree.specs.declared.statement.Stmt.{Stmt, fold-Stmt}
 use Rattle.c_tree.specs.declared.statement.Stmt.TheOpen.{Stmt-F, For, If, Assign, Put, Declare, Grow}
-use Rattle.c_meaning.specs.Names.{Name}
-use Rattle.c_meaning.specs.Memory.{Spot, Memory}
+use Rattle.c_meaning.specs.Memory.{Memory}
 use Rattle.c_meaning.specs.Inputs.{Input, start}
 use Rattle.c_meaning.specs.Ground.{Step}
 use Rattle.c_meaning.specs.Listing.{Item, listing, scene_of}

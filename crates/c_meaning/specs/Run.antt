@@ -1,6 +1,6 @@
 -- The run of a section: its steps with their places, the memory that it leaves, the fault that ends it, if one does, and
 -- how many turns its loops make, all together.
-use Rattle.std.specs.Prelude.{ℕ, zero, suc, ◌+◌, ◌^◌, ℤ, pos, ◌+ℤ◌, ◌-ℤ◌, ◌*ℤ◌, Bool, true, false, ◌&&◌, List, [], ◌∷◌, ◌++◌, map, if◌then◌else◌, Option, Some, None, Ok, Err, int_le}
+use Rattle.std.specs.Prelude.{ℕ, zero, suc, ◌+◌, ◌^◌, ℤ, pos, ◌+ℤ◌, ◌-ℤ◌, ◌*ℤ◌, Bool, true, ◌&&◌, List, [], ◌∷◌, ◌++◌, map, if◌then◌else◌, Option, Some, None, Ok, Err, int_le}
 use Rattle.std.specs.List.{list_all}
 use Rattle.c_tree.specs.declared.index.Cell.{Cell}
 use Rattle.c_tree.specs.declared.index.Index.{Index}
@@ -10,7 +10,7 @@ use Rattle.c_tree.specs.declared.statement.Stmt.TheOpen.{Stmt-F, For, If, Assign
 use Rattle.c_meaning.specs.declared.fault.EvalFault.TheVariants.{Outside, Range}
 use Rattle.c_meaning.specs.Names.{Name, same_name, same_numbers, Place, child}
 use Rattle.c_meaning.specs.Value.{Answer, ◌>>=◌, is_inside, subscripts_of, value_of, values_of, all_hold}
-use Rattle.c_meaning.specs.Memory.{Spot, Memory, Env, sight_of, bound}
+use Rattle.c_meaning.specs.Memory.{Memory, Env, sight_of, bound}
 use Rattle.c_meaning.specs.Inputs.{three}
 use Rattle.c_meaning.specs.Ground.{Step, perform}
 use Rattle.c_meaning.specs.Listing.{Item, Trouble, above_zero, assigned, scene_of}

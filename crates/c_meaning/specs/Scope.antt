@@ -1,5 +1,5 @@
 -- What names stand for, and which expressions fit that.
-use Rattle.std.specs.Prelude.{ℕ, ℤ, pos, Bool, true, false, ◌&&◌, nat_eq, int_le}
+use Rattle.std.specs.Prelude.{ℕ, pos, Bool, true, ◌&&◌, nat_eq, int_le}
 use Rattle.c_tree.specs.declared.index.Index.{Index, fold-Index}
 use Rattle.c_tree.specs.declared.index.Cell.{Cell, fold-Cell}
 use Rattle.c_tree.specs.declared.index.Subscripts.{Subscripts, fold-Subscripts}

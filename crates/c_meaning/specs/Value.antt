@@ -1,5 +1,5 @@
 -- The value of an index expression, or the first fault that is met.
-use Rattle.std.specs.Prelude.{ℕ, ℤ, pos, Bool, true, false, ◌&&◌, List, [], ◌∷◌, Option, Some, None, Result, Ok, Err, if◌then◌else◌, nat_le, int_lt, int_le}
+use Rattle.std.specs.Prelude.{ℤ, pos, Bool, true, false, ◌&&◌, List, [], ◌∷◌, Option, Some, None, Result, Ok, Err, if◌then◌else◌, nat_le, int_lt, int_le}
 use Rattle.std.specs.Ordering.{int_eq}
 use Rattle.c_tree.specs.declared.index.Index.{Index, fold-Index}
 use Rattle.c_tree.specs.declared.index.Cell.{Cell, fold-Cell}

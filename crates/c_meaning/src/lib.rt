@@ -10,3 +10,6 @@ mod view;
 pub use eval::{eval_index, eval_subscripts, eval_test};
 pub use fault::EvalFault;
 pub use view::View;
+
+#[cfg(test)]
+mod tests;

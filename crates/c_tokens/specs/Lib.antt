@@ -1,0 +1,5 @@
+pub mod Signs
+pub mod Lines
+pub mod Pieces
+pub mod Tokens
+pub mod Cursor

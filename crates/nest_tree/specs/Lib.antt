@@ -1,0 +1,15 @@
+pub mod Lists
+pub mod Places
+pub mod Effects
+pub mod Carriers
+pub mod Forms
+pub mod Terms
+pub mod Kernels
+pub mod Moving
+pub mod Rewriting
+pub mod Levels
+pub mod Pieces
+pub mod Unrolling
+pub mod Systems
+pub mod Loops
+pub mod Scans

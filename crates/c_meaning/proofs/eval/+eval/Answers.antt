@@ -1,12 +1,12 @@
 -- What each call asks, a smaller expression that fits the scope, and what is gathered at each part of a sum.
-use Rattle.std.proofs.Common.{rules, ◌≡◌, refl, sym, ap, ◌∙◌, subst, w64, FitsSigned, Ok, Err, ℕ, ℤ, ◌<◌, true, arith}
+use Rattle.std.proofs.Common.{rules, sym, ap, ◌∙◌, subst, w64, FitsSigned, Ok, arith}
 use Rattle.std.proofs.lemmas.Int.{to_z-of_z}
 use Rattle.c_tree.specs.declared.index.Index.{the_lemmas}
-use Rattle.c_meaning.specs.Weighed.{plain, negated, sum_of, multiple_of, lesser_of, greater_of, floor_of, ceil_of}
-use Rattle.c_meaning.specs.Value.{measure, subscripts_of, cell_value, plain_answer, three_answers, value_of, on_one, on_two, held, cell_seen, ◌>>=◌}
+use Rattle.c_meaning.specs.Weighed.{plain}
+use Rattle.c_meaning.specs.Value.{measure, value_of}
 use Rattle.c_meaning.specs.Capped.{capped, cap}
-use Rattle.c_meaning.specs.Scope.{fits, subscripts_fit}
-use Rattle.c_meaning.proofs.Equations.{measure-Const, measure-Var, measure-At, measure-Neg, measure-Times, measure-Min, measure-Max, measure-Floor, measure-Ceil, subscripts-One, subscripts-Two, subscripts-Three, cell_value_is}
+use Rattle.c_meaning.specs.Scope.{fits}
+use Rattle.c_meaning.proofs.Equations.{measure-Const, measure-Var, measure-At, measure-Neg, measure-Times, measure-Min, measure-Max, measure-Floor, measure-Ceil}
 use Rattle.c_meaning.proofs.Fitting.{name-Var, cell-At, part-Neg, left-Plus, right-Plus, left-Minus, right-Minus, part-Times, left-Min, right-Min, left-Max, right-Max, divisor-Floor, part-Floor, divisor-Ceil, part-Ceil, first-One, first-Two, second-Two, first-Three, second-Three, third-Three, at-Cell}
 use Rattle.c_meaning.proofs.Gathers.{Gathers, begins, adds, takes, ends}
 use Rattle.c_meaning.proofs.Readings.{some_extents, reads, is_outside, has_fault, three_of_one, three_of_two, three_of_three}

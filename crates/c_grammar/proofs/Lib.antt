@@ -1,0 +1,15 @@
+pub mod Local
+pub mod Turns
+pub mod LocalIndex
+pub mod LocalData
+pub mod LocalStatement
+pub mod LocalProgram
+pub mod CompleteIndex
+pub mod SoundIndex
+pub mod CompleteData
+pub mod SoundData
+pub mod CompleteStatement
+pub mod SoundStatement
+pub mod CompleteProgram
+pub mod SoundProgram
+pub mod Laws

@@ -1,0 +1,10 @@
+pub mod Index
+pub mod Data
+pub mod Statement
+pub mod Program
+pub mod Reader
+pub mod ReadIndex
+pub mod ReadData
+pub mod ReadStatement
+pub mod ReadProgram
+pub mod Texts

@@ -1,0 +1,4 @@
+pub mod NameEq
+pub mod UsesAt
+pub mod SizesAt
+pub mod StatementsAt

@@ -1,0 +1,18 @@
+//! Reading programs.
+#![tactic(auto)]
+
+mod halt;
+mod index;
+mod judged;
+mod program;
+mod read;
+mod sections;
+mod signature;
+mod statement;
+#[cfg(test)]
+mod tests;
+mod value;
+mod words;
+
+pub use judged::read_program;
+pub use read::{SyntaxAt, read_tree};

@@ -1,0 +1,4 @@
+pub mod Longest
+pub mod Digits
+pub mod Front
+pub mod ReadsBack

@@ -1,0 +1,4 @@
+pub mod State
+pub mod Ready
+pub mod Does
+pub mod Data

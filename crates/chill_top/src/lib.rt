@@ -1,0 +1,12 @@
+//! The top call: words, files and two sinks in, an outcome out.
+#![tactic(auto)]
+
+mod answer;
+mod emit;
+mod outcome;
+mod say;
+#[cfg(test)]
+mod tests;
+
+pub use answer::chill;
+pub use outcome::{Outcome, Refusal, status};

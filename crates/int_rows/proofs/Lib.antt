@@ -1,0 +1,11 @@
+pub mod GcdLaws
+pub mod FirstLaw
+pub mod Excluded
+pub mod Choose
+pub mod Back
+pub mod Zeros
+pub mod SecondLaw
+pub mod Table
+pub mod Following
+pub mod RowsLeft
+pub mod Instances

@@ -1,0 +1,7 @@
+pub mod Combining
+pub mod Canceling
+pub mod Absorbing
+pub mod Calls
+pub mod Progress
+pub mod Gathered
+pub mod Replacing

@@ -1,0 +1,18 @@
+//! Systems of rows over integers: elimination of variables, exclusion and implication, in checked 128-bit numbers.
+#![tactic(auto)]
+
+mod cancel;
+mod combine;
+mod copy;
+mod decide;
+mod gather;
+mod keep;
+mod numbers;
+mod reduce;
+mod replace;
+mod signs;
+mod system;
+#[cfg(test)]
+mod tests;
+
+pub use system::{SetFault, System};

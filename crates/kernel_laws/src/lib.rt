@@ -1,0 +1,9 @@
+//! The statements that pieces make in code are those of which the laws speak.
+#![tactic(auto)]
+
+ghost use Rattle.kernel_laws.specs.Laws.{PieceRewritesStatement};
+
+/// A statement that a piece makes is the old one in the new variables.
+pub fn piece_rewrites_statement()
+    ensures { PieceRewritesStatement }
+{}

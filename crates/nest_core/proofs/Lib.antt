@@ -1,0 +1,15 @@
+pub mod Sums
+pub mod Makes
+pub mod Rewrites
+pub mod Judging
+pub mod Keeping
+pub mod Bodies
+pub mod Nests
+pub mod Sharing
+pub mod Placing
+pub mod Counting
+pub mod Kept
+pub mod BodiesKept
+pub mod Ordered
+pub mod Shaped
+pub mod Naming

@@ -1,0 +1,7 @@
+use Rattle.nest_core.specs.Forms.{judged_form}
+use Rattle.nest_core.specs.Pieces.{term_made}
+use Rattle.nest_core.proofs.Makes.{Makes}
+use Rattle.nest_core.proofs.rewrite.judge_terms.Given as goal
+
+abbrev pub invariant-loop-term : goal.invariant-loop-term
+invariant-loop-term l = Makes (term_made judged_form) l.terms l.term-index l.new

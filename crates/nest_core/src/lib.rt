@@ -1,0 +1,14 @@
+//! Kernels at work: what a statement becomes by pieces, and how a kernel is put in order afterwards.
+#![tactic(auto)]
+
+mod apply;
+mod form;
+mod numbers;
+mod order;
+mod rewrite;
+mod terms;
+mod total;
+
+pub use apply::{apply_pieces, make_nests, statements};
+pub use order::{shared_loops, shares_loop};
+pub use terms::{is_held, names, names_inside};

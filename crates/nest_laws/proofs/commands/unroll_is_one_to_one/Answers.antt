@@ -1,0 +1,5 @@
+use Rattle.nest_laws.proofs.Laws.{unroll_law as law}
+use Rattle.nest_laws.proofs.commands.unroll_is_one_to_one.Goals as goal
+
+pub returns : goal.returns
+returns c = law

@@ -1,0 +1,9 @@
+pub mod Acts
+pub mod ListLaws
+pub mod KernelLaws
+pub mod PieceLaws
+pub mod SystemLaws
+pub mod Trees
+pub mod RunLaws
+pub mod BoundLaws
+pub mod Weights

@@ -1,0 +1,23 @@
+use Rattle.std.proofs.Common.{Some, refl, sym, ap, ◌∙◌, subst, arith}
+use Rattle.std.proofs.lemmas.Result.{err_from_is_err_and}
+use Rattle.recipe_read.specs.Cursor.{number}
+use Rattle.recipe_read.specs.Commands.{further}
+use Rattle.recipe_read.proofs.Lists.{Goes, start, goes_on, goes_out, fails}
+use Rattle.recipe_read.proofs.commands.further_levels.Goals as goal
+
+pub loop-found-init : goal.loop-found-init
+loop-found-init c = start number c.args.found c.args.line.now
+
+pub returns-in_err-number : goal.returns-in_err-number
+returns-in_err-number c =
+    let p = err_from_is_err_and c.from_residual.result c.from_residual.ensures.1 in
+    rw (p.1, p.2) (fails number c.loop-found.found c.loop-found.line c.takes.new.self _ _ _ c.loop-found.invariant (sym c.loop-found-test.ensures.sees) c.takes.ensures.after (omega (arith, c.loop-found-test.ensures.shorter refl)) c.in_err-number.ensures.reads)
+
+pub loop-found-preserved : goal.loop-found-preserved
+loop-found-preserved c =
+    let item = ap number (sym c.takes.ensures.after) ∙ c.in_ok-number.ensures.reads in
+    let on = goes_on number c.loop-found.found c.loop-found.line _ _ _ c.loop-found.invariant (sym c.loop-found-test.ensures.sees) item (omega (arith, c.loop-found-test.ensures.shorter refl, c.in_ok-number.ensures.no_longer)) in
+    subst (λ found. Goes number found c.number.new.self (further number c.args.found c.args.line.now)) (sym c.in_ok-push.ensures.ok) on
+
+pub returns : goal.returns
+returns c = goes_out number c.loop-found.found c.loop-found.line _ c.loop-found.invariant (sym c.loop-found-test.ensures.sees) ∙ ap (λ z. Some (c.loop-found.found, z)) (sym (c.loop-found-test.ensures.stays refl))
