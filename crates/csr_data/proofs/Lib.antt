@@ -1,0 +1,4 @@
+pub mod Extents
+pub mod Dues
+pub mod Small
+pub mod Cells

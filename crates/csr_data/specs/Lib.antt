@@ -1,0 +1,10 @@
+pub mod Parameters
+pub mod Extents
+pub mod Signature
+pub mod Values
+pub mod Shape
+pub mod Text
+pub mod Lines
+pub mod Matrices
+pub mod Wanted
+pub mod Reading
