@@ -1,5 +1,5 @@
 -- Loops around an assignment, and how they are written.
-use Rattle.std.specs.Prelude.{Bool, true, if◌then◌else◌, List, [], ◌∷◌, pos, codes, Option, Some, None, bytes_eq}
+use Rattle.std.specs.Prelude.{Bool, true, not, ◌&&◌, if◌then◌else◌, List, [], ◌∷◌, pos, codes, Option, Some, None, bytes_eq}
 use Rattle.c_tree.specs.declared.index.Index.{Index, out-Index}
 use Rattle.c_tree.specs.declared.index.Index.TheVariants.{Const, Var}
 use Rattle.c_tree.specs.declared.index.Index.TheOpen as open_index
@@ -17,7 +17,7 @@ use Rattle.c_tree.specs.declared.statement.How.{How}
 use Rattle.c_tree.specs.declared.program.Array.{Array}
 use Rattle.first_form.specs.declared.size.Size.{Size}
 use Rattle.first_form.specs.declared.nest.Turn.{Turn}
-use Rattle.first_form.specs.Sizes.{Name, size_of, expression_of, same_size, is_zero}
+use Rattle.first_form.specs.Sizes.{Name, has_name, size_of, expression_of, is_same, is_zero}
 
 -- the names that the loop variables get
 abbrev pub outer_name : Name
@@ -32,12 +32,12 @@ turn_with [] x = None
 turn_with (t ∷ ts) x = if bytes_eq t.variable x then Some t else turn_with ts x
 
 -- the variable of a loop, as it is written, where the loop goes over the extent
-abbrev pub over : Option Size → Option Turn → Option Index
-over (Some s) (Some t) = if same_size t.high s then Some (Var t.written) else None
-over _ _ = None
+abbrev pub over : Index → Option Turn → Option Index
+over e (Some t) = if is_same t.high e then Some (Var t.written) else None
+over e None = None
 
 abbrev pub subscript_layer : List Turn → Index → open_index.Index-F Index Subscripts Cell → Option Index
-subscript_layer ts e (open_index.Var x) = over (size_of e) (turn_with ts x)
+subscript_layer ts e (open_index.Var x) = over e (turn_with ts x)
 subscript_layer ts e _ = None
 
 -- a subscript is the variable of a loop that goes over the extent
@@ -113,13 +113,17 @@ abbrev pub around : Name → Name → Bool → Option Size → List Stmt → Opt
 around y x true (Some size) (s ∷ []) = Some (record { turn = record { variable = x; high = size; written = y }; inner = s })
 around y x _ _ _ = None
 
-abbrev pub loop_layer : Name → open_stmt.Stmt-F Stmt → Option Around
-loop_layer y (open_stmt.For x low high body) = around y x (is_zero low) (size_of high) body
-loop_layer y _ = None
+-- neither is the name of a parameter
+abbrev pub are_free : List Name → Name → Name → Bool
+are_free params x y = not (has_name params x) && not (has_name params y)
+
+abbrev pub loop_layer : List Name → Name → open_stmt.Stmt-F Stmt → Option Around
+loop_layer params y (open_stmt.For x low high body) = around y x (is_zero low && are_free params x y) (size_of params high) body
+loop_layer params y _ = None
 
 -- a loop from 0 to below a size, around one statement; its variable gets the name
-abbrev pub loop_of : Name → Stmt → Option Around
-loop_of y s = loop_layer y (out-Stmt s)
+abbrev pub loop_of : List Name → Name → Stmt → Option Around
+loop_of params y s = loop_layer params y (out-Stmt s)
 
 -- the loop as it is written
 abbrev pub in_loop : Turn → Option Stmt → Option Stmt
@@ -131,10 +135,10 @@ below arrays t s (Some l) = in_loop l.turn (assignment arrays (l.turn ∷ t ∷ 
 below arrays t s None = assignment arrays (t ∷ []) s
 
 -- in the outer loop stands an assignment, or one more loop around one
-abbrev pub nest_in : List Array → Option Around → Option Stmt
-nest_in arrays (Some l) = in_loop l.turn (below arrays l.turn l.inner (loop_of inner_name l.inner))
-nest_in arrays None = None
+abbrev pub nest_in : List Name → List Array → Option Around → Option Stmt
+nest_in params arrays (Some l) = in_loop l.turn (below arrays l.turn l.inner (loop_of params inner_name l.inner))
+nest_in params arrays None = None
 
 -- one loop, or one loop around another, around an assignment: as it is written
-abbrev pub nest : List Array → Stmt → Option Stmt
-nest arrays s = nest_in arrays (loop_of outer_name s)
+abbrev pub nest : List Name → List Array → Stmt → Option Stmt
+nest params arrays s = nest_in params arrays (loop_of params outer_name s)

@@ -17,12 +17,16 @@ pub fn copied_names(alloc: Global, names: &[Name]) -> Result<List<Name>, NoMemor
 }
 
 /// The data arrays once more; none where one of them is no data array, or has an extent that is no size.
-pub fn copied_arrays(alloc: Global, mut arrays: &[Array]) -> Result<Option<List<Array>>, NoMemory>
-    ensures { IfOk result (λ o. o ≡ (if list_all spec.is_plain arrays.entry.now then Some arrays.entry.now else None)) }
+pub fn copied_arrays(
+    alloc: Global,
+    params: &[Name],
+    mut arrays: &[Array],
+) -> Result<Option<List<Array>>, NoMemory>
+    ensures { IfOk result (λ o. o ≡ (if list_all (spec.is_plain params.now) arrays.entry.now then Some arrays.entry.now else None)) }
 {
     let mut copies = List::new(alloc);
     'arrays: while let [array, rest @ ..] = arrays {
-        let Some(copy) = copied_array(alloc, array)? else {
+        let Some(copy) = copied_array(alloc, params, array)? else {
             return Ok(None);
         };
         copies.push(copy)?;
@@ -31,13 +35,13 @@ pub fn copied_arrays(alloc: Global, mut arrays: &[Array]) -> Result<Option<List<
     Ok(Some(copies))
 }
 
-fn copied_array(alloc: Global, array: &Array) -> Result<Option<Array>, NoMemory>
-    ensures { IfOk result (λ o. o ≡ (if spec.is_plain array.now then Some array.now else None)) }
+fn copied_array(alloc: Global, params: &[Name], array: &Array) -> Result<Option<Array>, NoMemory>
+    ensures { IfOk result (λ o. o ≡ (if spec.is_plain params.now array.now then Some array.now else None)) }
 {
     if !is_data(array.kind) {
         return Ok(None);
     }
-    match copied_extents(alloc, array.extents.as_slice())? {
+    match copied_extents(alloc, params, array.extents.as_slice())? {
         Some(extents) => Ok(Some(Array {
             name: array.name,
             kind: array.kind,
@@ -56,12 +60,16 @@ fn is_data(kind: Kind) -> bool
     }
 }
 
-fn copied_extents(alloc: Global, mut extents: &[Index]) -> Result<Option<List<Index>>, NoMemory>
-    ensures { IfOk result (λ o. o ≡ (if list_all is_size extents.entry.now then Some extents.entry.now else None)) }
+fn copied_extents(
+    alloc: Global,
+    params: &[Name],
+    mut extents: &[Index],
+) -> Result<Option<List<Index>>, NoMemory>
+    ensures { IfOk result (λ o. o ≡ (if list_all (is_size params.now) extents.entry.now then Some extents.entry.now else None)) }
 {
     let mut copies = List::new(alloc);
     'extents: while let [extent, rest @ ..] = extents {
-        let Some(copy) = copied_size(extent) else {
+        let Some(copy) = copied_size(params, extent) else {
             return Ok(None);
         };
         copies.push(copy)?;

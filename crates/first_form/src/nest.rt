@@ -4,7 +4,7 @@ ghost use Rattle.first_form.specs.Nests as spec;
 ghost use Rattle.first_form.specs.Written.{written};
 
 use crate::copied::{copied_arrays, copied_names};
-use crate::size::{Size, expression_of, is_name, is_same_size, is_zero, size_of};
+use crate::size::{Size, expression_of, has_name, is_name, is_same, is_zero, size_of};
 use c_tree::{Array, Cell, Expr, Index, Program, Stmt, Subscripts};
 use chill_base::{Boxed, List, Name, NoMemory};
 use std::alloc::Global;
@@ -24,13 +24,14 @@ pub fn renamed(alloc: Global, program: &Program) -> Result<Option<Program>, NoMe
     if !program.matrices.is_empty() || !program.inspector.is_empty() {
         return Ok(None);
     }
-    let Some(arrays) = copied_arrays(alloc, program.arrays.as_slice())? else {
+    let params = program.params.as_slice();
+    let Some(arrays) = copied_arrays(alloc, params, program.arrays.as_slice())? else {
         return Ok(None);
     };
     let [statement] = program.executor.as_slice() else {
         return Ok(None);
     };
-    let Some(statement) = renamed_nest(alloc, arrays.as_slice(), statement)? else {
+    let Some(statement) = renamed_nest(alloc, params, arrays.as_slice(), statement)? else {
         return Ok(None);
     };
     let mut executor = List::new(alloc);
@@ -38,7 +39,7 @@ pub fn renamed(alloc: Global, program: &Program) -> Result<Option<Program>, NoMe
     Ok(Some(Program {
         name: program.name,
         matrices: List::new(alloc),
-        params: copied_names(alloc, program.params.as_slice())?,
+        params: copied_names(alloc, params)?,
         arrays,
         inspector: List::new(alloc),
         executor,
@@ -64,9 +65,16 @@ struct Around<'a> {
     inner: &'a Stmt,
 }
 
+// Neither is the name of a parameter.
+fn are_free(params: &[Name], variable: Name, written: Name) -> bool
+    ensures { result ≡ spec.are_free params.now variable written }
+{
+    !has_name(params, variable) && !has_name(params, written)
+}
+
 // A loop of the first form.
-fn loop_of<'a>(written: Name, statement: &'a Stmt) -> Option<Around<'a>>
-    ensures { MatchOption result (spec.loop_of written statement.now ≡ None) (λ r. spec.loop_of written statement.now ≡ Some (record { turn = r.turn; inner = r.inner.now })) }
+fn loop_of<'a>(params: &[Name], written: Name, statement: &'a Stmt) -> Option<Around<'a>>
+    ensures { MatchOption result (spec.loop_of params.now written statement.now ≡ None) (λ r. spec.loop_of params.now written statement.now ≡ Some (record { turn = r.turn; inner = r.inner.now })) }
 {
     let Stmt::For {
         var,
@@ -77,10 +85,10 @@ fn loop_of<'a>(written: Name, statement: &'a Stmt) -> Option<Around<'a>>
     else {
         return None;
     };
-    if !is_zero(low) {
+    if !is_zero(low) || !are_free(params, *var, written) {
         return None;
     }
-    let Some(high) = size_of(high) else {
+    let Some(high) = size_of(params, high) else {
         return None;
     };
     let [inner] = body.as_slice() else {
@@ -111,12 +119,17 @@ fn in_loop(alloc: Global, turn: &Turn, inner: Option<Stmt>) -> Result<Option<Stm
     }))
 }
 
-fn renamed_nest(alloc: Global, arrays: &[Array], statement: &Stmt) -> Result<Option<Stmt>, NoMemory>
-    ensures { IfOk result (λ o. o ≡ spec.nest arrays.now statement.now) }
+fn renamed_nest(
+    alloc: Global,
+    params: &[Name],
+    arrays: &[Array],
+    statement: &Stmt,
+) -> Result<Option<Stmt>, NoMemory>
+    ensures { IfOk result (λ o. o ≡ spec.nest params.now arrays.now statement.now) }
 {
-    match loop_of(outer_name(), statement) {
+    match loop_of(params, outer_name(), statement) {
         Some(outer) => {
-            let renamed = renamed_below(alloc, arrays, &outer.turn, outer.inner)?;
+            let renamed = renamed_below(alloc, params, arrays, &outer.turn, outer.inner)?;
             in_loop(alloc, &outer.turn, renamed)
         }
         None => Ok(None),
@@ -126,13 +139,14 @@ fn renamed_nest(alloc: Global, arrays: &[Array], statement: &Stmt) -> Result<Opt
 // The statement in the outer loop.
 fn renamed_below(
     alloc: Global,
+    params: &[Name],
     arrays: &[Array],
     outer: &Turn,
     statement: &Stmt,
 ) -> Result<Option<Stmt>, NoMemory>
-    ensures { IfOk result (λ o. o ≡ spec.below arrays.now outer.now statement.now (spec.loop_of spec.inner_name statement.now)) }
+    ensures { IfOk result (λ o. o ≡ spec.below arrays.now outer.now statement.now (spec.loop_of params.now spec.inner_name statement.now)) }
 {
-    match loop_of(inner_name(), statement) {
+    match loop_of(params, inner_name(), statement) {
         Some(within) => {
             let turns = [within.turn, *outer];
             let renamed = renamed_assignment(alloc, arrays, &turns, within.inner)?;
@@ -305,18 +319,18 @@ fn turn_with(mut turns: &[Turn], name: Name) -> Option<Turn>
 }
 
 // The variable of a loop, as it is written, where the loop goes over the extent.
-fn over(size: Option<Size>, turn: Option<Turn>) -> Option<Index>
-    ensures { result ≡ spec.over size turn }
+fn over(extent: &Index, turn: Option<Turn>) -> Option<Index>
+    ensures { result ≡ spec.over extent.now turn }
 {
-    match (size, turn) {
-        (Some(size), Some(turn)) => {
-            if is_same_size(turn.high, size) {
+    match turn {
+        Some(turn) => {
+            if is_same(turn.high, extent) {
                 Some(Index::Var(turn.written))
             } else {
                 None
             }
         }
-        _ => None,
+        None => None,
     }
 }
 
@@ -325,7 +339,7 @@ fn renamed_subscript(turns: &[Turn], extent: &Index, subscript: &Index) -> Optio
     ensures { result ≡ spec.subscript turns.now extent.now subscript.now }
 {
     match subscript {
-        Index::Var(name) => over(size_of(extent), turn_with(turns, *name)),
+        Index::Var(name) => over(extent, turn_with(turns, *name)),
         _ => None,
     }
 }

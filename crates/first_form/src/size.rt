@@ -15,15 +15,38 @@ pub enum Size {
     Number(i64),
 }
 
-/// The size that an expression is; none where it is something else.
-pub fn size_of(expression: &Index) -> Option<Size>
-    ensures { result ≡ spec.size_of expression.now }
+/// The size that an expression is under these parameters; none where it is something else.
+pub fn size_of(params: &[Name], expression: &Index) -> Option<Size>
+    ensures { result ≡ spec.size_of params.now expression.now }
 {
     match expression {
-        Index::Var(name) => Some(Size::Param(*name)),
+        Index::Var(name) => param_size(params, *name),
         Index::Const(number) => number_size(*number),
         _ => None,
     }
+}
+
+fn param_size(params: &[Name], name: Name) -> Option<Size>
+    ensures { result ≡ spec.param_size params.now name }
+{
+    if has_name(params, name) {
+        Some(Size::Param(name))
+    } else {
+        None
+    }
+}
+
+/// Is the name among the names?
+pub fn has_name(mut names: &[Name], name: Name) -> bool
+    ensures { result ≡ spec.has_name names.entry.now name }
+{
+    'names: while let [first, rest @ ..] = names {
+        if is_name(*first, name) {
+            return true;
+        }
+        names = rest;
+    }
+    false
 }
 
 fn number_size(number: i64) -> Option<Size>
@@ -47,10 +70,10 @@ pub fn expression_of(size: Size) -> Index
 }
 
 /// The expression once more; none where it is no size.
-pub fn copied_size(expression: &Index) -> Option<Index>
-    ensures { result ≡ (if spec.is_size expression.now then Some expression.now else None) }
+pub fn copied_size(params: &[Name], expression: &Index) -> Option<Index>
+    ensures { result ≡ (if spec.is_size params.now expression.now then Some expression.now else None) }
 {
-    match size_of(expression) {
+    match size_of(params, expression) {
         Some(size) => Some(expression_of(size)),
         None => None,
     }
@@ -63,18 +86,18 @@ pub fn is_name(a: Name, b: Name) -> bool
     a.bytes() == b.bytes()
 }
 
-/// Are the sizes the same?
-pub fn is_same_size(a: Size, b: Size) -> bool
-    ensures { result ≡ spec.same_size a b }
+/// Is the expression that size?
+pub fn is_same(size: Size, expression: &Index) -> bool
+    ensures { result ≡ spec.is_same size expression.now }
 {
-    match a {
-        Size::Param(x) => match b {
-            Size::Param(y) => is_name(x, y),
-            Size::Number(_) => false,
+    match size {
+        Size::Param(x) => match expression {
+            Index::Var(y) => is_name(x, *y),
+            _ => false,
         },
-        Size::Number(m) => match b {
-            Size::Param(_) => false,
-            Size::Number(n) => m == n,
+        Size::Number(m) => match expression {
+            Index::Const(n) => m == *n,
+            _ => false,
         },
     }
 }

@@ -6,7 +6,7 @@ use Rattle.first_form.proofs.copied.copied_extents.Given as goal
 abbrev pub invariant-extents : goal.invariant-extents
 invariant-extents l = record {
   same : l.copies ++ l.extents ≡ l.initial.extents;
-  sizes : list_all is_size l.extents ≡ list_all is_size l.initial.extents;
+  sizes : list_all (is_size l.params) l.extents ≡ list_all (is_size l.params) l.initial.extents;
 }
 
 abbrev pub decreases-extents : goal.decreases-extents
