@@ -1,0 +1,4 @@
+pub mod Inversion
+pub mod Cells
+pub mod Nests
+pub mod Programs

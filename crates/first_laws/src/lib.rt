@@ -1,0 +1,20 @@
+//! What it means that a program of the first form is written: it runs as the source does. Each function here carries one
+//! law as its contract.
+#![tactic(auto)]
+
+ghost use Rattle.std.specs.Prelude.{◌≡◌, Some};
+ghost use Rattle.c_tree.specs.declared.program.Program.{Program};
+ghost use Rattle.c_meaning.specs.Inputs.{Input};
+ghost use Rattle.first_form.specs.Written.{written};
+ghost use Rattle.first_laws.specs.Alike.{HasSameSignature, RunsAlike};
+
+/// The written program has the source's name, parameters and arrays, and neither has a matrix or an inspector.
+pub fn written_program_has_same_signature()
+    ensures { (p q : Program) → written p ≡ Some q → HasSameSignature p q }
+{}
+
+/// On each input the written program has the source's list, place by place, no fault where the source has none, and
+/// leaves each array as the source leaves it.
+pub fn written_program_runs_alike()
+    ensures { (p q : Program) (i : Input) → written p ≡ Some q → RunsAlike p q i }
+{}
