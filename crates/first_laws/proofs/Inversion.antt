@@ -1,5 +1,6 @@
 -- What the source is where something is written for it.
-use Rattle.std.proofs.Common.{◌≡◌, refl, sym, ap, ◌∙◌, subst, ℤ, pos, negsuc, Bool, true, false, ◌&&◌, List, [], ◌∷◌, Option, Some, None, if◌then◌else◌}
+use Rattle.std.proofs.lemmas.Bool.Decides.{nat_tests}
+use Rattle.std.proofs.Common.{arith, ℕ, ◌≤◌, ◌≡◌, refl, sym, ap, ◌∙◌, subst, ℤ, pos, negsuc, Bool, true, false, ◌&&◌, List, [], ◌∷◌, Option, Some, None, if◌then◌else◌}
 use Rattle.std.specs.Prelude.{nat_le, ◌^◌}
 use Rattle.std.specs.Ordering.{int_eq}
 use Rattle.std.proofs.lemmas.Bool.Decides.{Decides-int_eq}
@@ -27,21 +28,24 @@ use Rattle.c_meaning.proofs.Fitting.{and_left, and_right}
 pub some_is : {A : Type 0} (x y : A) → Some x ≡ Some y → x ≡ y
 some_is x y h = cc
 
--- a size is a number, or a parameter
+-- a size is a parameter, or a number of at most 2^31
 abbrev pub IsKnown : List Name → Size → Type 0
 IsKnown params (Param x) = has_name params x ≡ true
-IsKnown params (Number n) = Unit {0}
+IsKnown params (Number n) = (k : ℕ) × (n ≡ pos k) × (k ≤ 2 ^ 31)
 
 known_param : (params : List Name) (x : Name) (b : Bool) (s : Size) → has_name params x ≡ b → (if b then Some (Param x) else None) ≡ Some s → IsKnown params s
 known_param params x true s e h = subst (IsKnown params) (some_is (Param x) s h) e
 known_param params x false s e h = absurd cc
 
-known_number : (params : List Name) (n : ℤ) (b : Bool) (s : Size) → (if b then Some (Number n) else None) ≡ Some s → IsKnown params s
-known_number params n true s h = subst (IsKnown params) (some_is (Number n) s h) tt
-known_number params n false s h = absurd cc
+below_limit : (n : ℕ) → nat_le n (2 ^ 31) ≡ true → n ≤ 2 ^ 31
+below_limit n h = grind (arith, nat_tests)
+
+known_number : (params : List Name) (n : ℕ) (b : Bool) (s : Size) → nat_le n (2 ^ 31) ≡ b → (if b then Some (Number (pos n)) else None) ≡ Some s → IsKnown params s
+known_number params n true s e h = subst (IsKnown params) (some_is (Number (pos n)) s h) (n, refl, below_limit n e)
+known_number params n false s e h = absurd cc
 
 known_integer : (params : List Name) (n : ℤ) (s : Size) → number_size n ≡ Some s → IsKnown params s
-known_integer params (pos n) s h = known_number params (pos n) (nat_le n (2 ^ 31)) s h
+known_integer params (pos n) s h = known_number params n (nat_le n (2 ^ 31)) s refl h
 known_integer params (negsuc n) s h = absurd cc
 
 known_layer : (params : List Name) (d : Index-F Index Subscripts Cell) (s : Size) → size_layer params d ≡ Some s → IsKnown params s

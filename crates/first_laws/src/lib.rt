@@ -6,6 +6,9 @@ ghost use Rattle.std.specs.Prelude.{◌≡◌, Some};
 ghost use Rattle.c_tree.specs.declared.program.Program.{Program};
 ghost use Rattle.c_meaning.specs.Inputs.{Input};
 ghost use Rattle.first_form.specs.Written.{written};
+ghost use Rattle.c_meaning.specs.Examples.{i};
+ghost use Rattle.first_form.specs.Nests.{outer_name};
+ghost use Rattle.first_laws.specs.Examples.{copying};
 ghost use Rattle.first_laws.specs.Alike.{HasSameSignature, RunsAlike};
 
 /// The written program has the source's name, parameters and arrays, and neither has a matrix or an inspector.
@@ -17,4 +20,9 @@ pub fn written_program_has_same_signature()
 /// leaves each array as the source leaves it.
 pub fn written_program_runs_alike()
     ensures { (p q : Program) (i : Input) → written p ≡ Some q → RunsAlike p q i }
+{}
+
+/// A loop that copies an array is written as it stands, with `t1` in the place of `i`.
+pub fn worked_program()
+    ensures { written (copying i) ≡ Some (copying outer_name) }
 {}
