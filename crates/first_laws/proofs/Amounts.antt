@@ -1,16 +1,15 @@
 -- The amounts that sizes have on a valid input.
-use Rattle.std.proofs.Common.{arith, ◌≡◌, refl, sym, ap, ◌∙◌, subst, ℕ, ◌≤◌, ◌<◌, ℤ, pos, negsuc, ◌≤ℤ◌, Bool, true, false, ◌&&◌, List, [], ◌∷◌, Ok, Err, if◌then◌else◌}
-use Rattle.std.specs.Prelude.{bytes_eq, nat_le, int_le, int_lt, unsigned_abs, ◌^◌}
+use Rattle.std.proofs.Common.{arith, ◌≡◌, refl, ap, ◌∙◌, subst, ℕ, ◌≤◌, ◌<◌, ℤ, pos, negsuc, ◌≤ℤ◌, Bool, true, false, ◌&&◌, List, [], ◌∷◌, Ok, Err, if◌then◌else◌}
+use Rattle.std.specs.Prelude.{bytes_eq, nat_le, int_le, int_lt, ◌^◌}
 use Rattle.std.specs.List.{AllByRecursion}
 use Rattle.std.proofs.lemmas.Bool.Decides.{nat_tests}
 use Rattle.std.proofs.lemmas.Int.{ints}
-use Rattle.c_tree.specs.declared.index.Index.TheVariants.{Const, Var}
 use Rattle.first_form.specs.declared.size.Size.{Size}
 use Rattle.first_form.specs.declared.size.Size.TheVariants.{Param, Number}
 use Rattle.first_form.specs.Sizes.{Name, has_name, expression_of}
 use Rattle.c_meaning.specs.declared.fault.EvalFault.TheVariants.{Range}
 use Rattle.c_meaning.specs.Value.{Sight, judged, judged_answer, value_of}
-use Rattle.c_meaning.specs.Weighed.{Weighed, plain, greatest}
+use Rattle.c_meaning.specs.Weighed.{plain}
 use Rattle.c_meaning.specs.Inputs.{Input, IsParameter}
 use Rattle.c_meaning.proofs.Equations.{measure-Const, measure-Var}
 use Rattle.c_meaning.proofs.Spots.{name_is}
@@ -51,11 +50,13 @@ amount_of params i a (Param x) k =
     let p : IsParameter x i = found i params x a k in
     let n : IsNatural (i.value x) = natural (i.value x) p.from p.to in
     record {
-      amount = n.amount; small = n.small;
+      amount = n.amount;
+      small = n.small;
       value = λ c h. ap judged_answer (measure-Var x c ∙ ap (λ v. Ok (plain v)) (h x k ∙ n.is)) ∙ judged_small n.amount n.small;
     }
 amount_of params i a (Number n) k = record {
-  amount = k.0; small = k.2;
+  amount = k.0;
+  small = k.2;
   value = λ c h. ap judged_answer (measure-Const n c ∙ ap (λ v. Ok (plain v)) k.1) ∙ judged_small k.0 k.2;
 }
 

@@ -1,10 +1,7 @@
 -- On a valid input no access of a program of the first form is outside.
-use Rattle.std.proofs.Common.{arith, ◌≡◌, refl, sym, ap, ◌∙◌, subst, ℕ, zero, suc, ◌+◌, ◌≤◌, ◌<◌, ℤ, pos, ◌+ℤ◌, ◌-ℤ◌, Bool, true, false, not, ◌&&◌, List, [], ◌∷◌, ◌++◌, Option, Some, None, Ok, Err, if◌then◌else◌}
+use Rattle.std.proofs.Common.{arith, ◌≡◌, refl, sym, ap, ◌∙◌, ℕ, ◌≤◌, ◌<◌, ℤ, pos, Bool, true, false, ◌&&◌, List, [], ◌∷◌, Option, Some, None, Ok, Err, if◌then◌else◌}
 use Rattle.std.specs.Prelude.{bytes_eq, int_le, int_lt, ◌^◌}
-use Rattle.std.specs.List.{AllByRecursion}
-use Rattle.std.specs.Ordering.{int_eq}
 use Rattle.std.proofs.lemmas.Bool.Decides.{Decides-int_eq}
-use Rattle.std.proofs.lemmas.Int.{ints}
 use Rattle.c_tree.specs.declared.index.Index.{Index, Index-F, out-Index, roll-Index}
 use Rattle.c_tree.specs.declared.index.Index.TheViews.{roll-out-Index}
 use Rattle.c_tree.specs.declared.index.Index.TheVariants.{Const, Var, rolls-Const, rolls-Var}
@@ -18,7 +15,7 @@ use Rattle.c_tree.specs.declared.program.Array.{Array}
 use Rattle.first_form.specs.declared.size.Size.{Size}
 use Rattle.first_form.specs.declared.size.Size.TheVariants.{Param, Number}
 use Rattle.first_form.specs.declared.nest.Turn.{Turn}
-use Rattle.first_form.specs.Sizes.{Name, has_name, expression_of, is_same, same_layer}
+use Rattle.first_form.specs.Sizes.{Name, expression_of, is_same, same_layer}
 use Rattle.first_form.specs.Nests.{turn_with, over, subscript_layer, subscript, one, two, three, extents_of, cell_at, cell, loaded, value_layer, value}
 use Rattle.first_form.specs.Nests as written
 use Rattle.c_meaning.specs.declared.fault.EvalFault.TheVariants.{Outside}
@@ -26,12 +23,11 @@ use Rattle.c_meaning.specs.Value.{Answer, Sight, ◌>>=◌, is_inside, measure, 
 use Rattle.c_meaning.specs.Weighed.{plain}
 use Rattle.c_meaning.specs.Memory.{Spot}
 use Rattle.c_meaning.specs.Inputs.{Input, sight_of_parameters, array_named, three_of, extents_in}
-use Rattle.c_meaning.specs.Ground.{Ground, number, load}
+use Rattle.c_meaning.specs.Ground.{number, load}
 use Rattle.c_meaning.specs.Listing.{Scene, spot, ground}
 use Rattle.c_meaning.proofs.Equations.{measure_at, subscripts_at}
 use Rattle.c_meaning.proofs.Spots.{name_is}
 use Rattle.c_meaning.proofs.Parts.{ground_at}
-use Rattle.first_laws.proofs.Inversion.{some_is, IsKnown}
 use Rattle.first_laws.proofs.Amounts.{judged_small, is_below}
 
 -- an answer that is no fault
@@ -99,7 +95,10 @@ module _ (arrays : List Array) (i : Input) (ts : List Turn) (c : Scene) (r : IsA
   turn_in e k x t true j h m g n =
       let u : IsAtTurn i t.high ((c.sight).value x) = r.turns x t g in
       record {
-        at = u.at; extent = u.amount; below = u.below; small = u.small;
+        at = u.at;
+        extent = u.amount;
+        below = u.below;
+        small = u.small;
         value = ap judged_answer m ∙ ap (λ v. judged_answer (Ok (plain v))) u.is ∙ judged_small u.at (below_small u.at u.amount u.below u.small);
         size = ap (λ e. value_of e (sight_of_parameters i)) (sym (same_as t.high e h)) ∙ u.size;
       }

@@ -4,4 +4,5 @@ pub mod Nests
 pub mod Programs
 pub mod Amounts
 pub mod Fine
+pub mod Quiet
 pub mod Examples

@@ -39,7 +39,7 @@ assignment_alike arrays ts s s' c d r a at n =
     ∙ sym (ap (λ s. (part s).listing d at n) a.is_written)
 
 -- a loop from 0 around one statement
-abbrev loop : Name → Index → Stmt → Stmt
+abbrev pub loop : Name → Index → Stmt → Stmt
 loop x high s = For x (Const (pos 0)) high (s ∷ [])
 
 loops_alike : (x y : Name) (high : Index) (s s' : Stmt) (c d : Scene) → value_of high c.sight ≡ value_of high d.sight → ((v : ℤ) → Alike s s' (bind x v c) (bind y v d)) → Alike (loop x high s) (loop y high s') c d
@@ -56,14 +56,14 @@ loops_alike x y high s s' c d h k at n =
     ∙ sym (ap (λ (p : Part). p.listing d at n) (listed-For y (Const (pos 0)) high (s' ∷ [])))
 
 -- two scenes have the same parameters
-abbrev AgreeOn : List Name → Sight → Sight → Type 0
+abbrev pub AgreeOn : List Name → Sight → Sight → Type 0
 AgreeOn params c d = (x : Name) → has_name params x ≡ true → c.value x ≡ d.value x
 
 size_alike : (params : List Name) (z : Size) (c d : Sight) → AgreeOn params c d → IsKnown params z → value_of (expression_of z) c ≡ value_of (expression_of z) d
 size_alike params (Param x) c d h k = ap judged_answer (measure-Var x c ∙ ap (λ v. Ok (plain v)) (h x k) ∙ sym (measure-Var x d))
 size_alike params (Number n) c d h k = ap judged_answer (measure-Const n c ∙ sym (measure-Const n d))
 
-not_true : (b : Bool) → not b ≡ true → b ≡ false
+pub not_true : (b : Bool) → not b ≡ true → b ≡ false
 not_true true h = cc
 not_true false h = refl
 
@@ -72,7 +72,7 @@ apart : (params : List Name) (x z : Name) (b : Bool) → same_name x z ≡ b →
 apart params x z true e h k = let f : x ≡ z = name_is x z e in let g : has_name params x ≡ true = ap (has_name params) f ∙ k in absurd cc
 apart params x z false e h k = refl
 
-bound_keeps : (params : List Name) (x : Name) (v : ℤ) (c : Scene) → has_name params x ≡ false → AgreeOn params (bind x v c).sight c.sight
+pub bound_keeps : (params : List Name) (x : Name) (v : ℤ) (c : Scene) → has_name params x ≡ false → AgreeOn params (bind x v c).sight c.sight
 bound_keeps params x v c h z k = ap (λ b. if b then v else (c.sight).value z) (apart params x z (same_name x z) refl h k)
 
 bounds_agree : (params : List Name) (x y : Name) (v : ℤ) (c : Scene) → are_free params x y ≡ true → AgreeOn params (bind x v c).sight (bind y v c).sight
@@ -110,12 +110,12 @@ other_name t l h k x u g =
     ap (λ y. same_name y u.written) k ∙ ap (λ (u : Turn). same_name inner_name u.written) (sym (single t u (bytes_eq t.variable x) g)) ∙ ap (same_name inner_name) h
 
 -- the written loop around a statement
-record IsInLoop (t : Turn) (o : Option Stmt) (s' : Stmt) : Type 0 where
-  body : Stmt
-  some : o ≡ Some body
-  is : s' ≡ loop t.written (expression_of t.high) body
+pub record IsInLoop (t : Turn) (o : Option Stmt) (s' : Stmt) : Type 0 where
+  pub body : Stmt
+  pub some : o ≡ Some body
+  pub is : s' ≡ loop t.written (expression_of t.high) body
 
-in_loop_is : (t : Turn) (o : Option Stmt) (s' : Stmt) → in_loop t o ≡ Some s' → IsInLoop t o s'
+pub in_loop_is : (t : Turn) (o : Option Stmt) (s' : Stmt) → in_loop t o ≡ Some s' → IsInLoop t o s'
 in_loop_is t (Some b) s' h = record { body = b; some = refl; is = sym (some_is (loop t.written (expression_of t.high) b) s' h) }
 in_loop_is t None s' h = absurd cc
 

@@ -20,17 +20,17 @@ use Rattle.first_laws.proofs.Inversion.{some_is}
 use Rattle.first_laws.proofs.Nests.{IsNest, is_nest}
 
 -- the source with this executor
-abbrev made : Program → Stmt → Program
+abbrev pub made : Program → Stmt → Program
 made p s = record p { matrices = []; inspector = []; executor = s ∷ [] }
 
-record IsWritten (p q : Program) : Type 0 where
-  old : Stmt
-  new : Stmt
-  no_matrix : p.matrices ≡ []
-  no_inspector : p.inspector ≡ []
-  executor : p.executor ≡ old ∷ []
-  nested : nest p.params p.arrays old ≡ Some new
-  is : made p new ≡ q
+pub record IsWritten (p q : Program) : Type 0 where
+  pub old : Stmt
+  pub new : Stmt
+  pub no_matrix : p.matrices ≡ []
+  pub no_inspector : p.inspector ≡ []
+  pub executor : p.executor ≡ old ∷ []
+  pub nested : nest p.params p.arrays old ≡ Some new
+  pub is : made p new ≡ q
 
 none_is : {A : Type 0} (xs : List A) → is_none xs ≡ true → xs ≡ []
 none_is [] h = refl
@@ -51,7 +51,7 @@ plain_is p q true e h =
     layer_is p q p.executor (none_is p.matrices (and_left _ _ both)) (none_is p.inspector (and_right (is_none p.matrices) _ both)) refl h
 plain_is p q false e h = absurd cc
 
-written_is : (p q : Program) → written p ≡ Some q → IsWritten p q
+pub written_is : (p q : Program) → written p ≡ Some q → IsWritten p q
 written_is p q h = plain_is p q (has_plain_signature p) refl h
 
 pub same_signature : (p q : Program) → written p ≡ Some q → HasSameSignature p q

@@ -1,5 +1,5 @@
 -- A worked case.
-use Rattle.std.specs.Prelude.{pos, List, [], ◌∷◌, codes}
+use Rattle.std.specs.Prelude.{pos, [], ◌∷◌, codes}
 use Rattle.c_tree.specs.declared.index.Index.TheVariants.{Const, Var}
 use Rattle.c_tree.specs.declared.data.Expr.TheVariants.{At as Load}
 use Rattle.c_tree.specs.declared.statement.How.TheVariants.{Write}
@@ -9,7 +9,7 @@ use Rattle.c_tree.specs.declared.program.Kind.TheVariants.{Number}
 use Rattle.c_tree.specs.declared.program.Array.{Array}
 use Rattle.c_tree.specs.declared.program.Program.{Program}
 use Rattle.c_meaning.specs.Names.{Name}
-use Rattle.c_meaning.specs.Examples.{b, c, i, n, at}
+use Rattle.c_meaning.specs.Examples.{b, c, n, at}
 
 -- for (int64_t x = 0; x < n; x++) b[x] = c[x];
 abbrev pub loop_over : Name → Stmt
