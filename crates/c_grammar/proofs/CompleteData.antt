@@ -1,17 +1,17 @@
 -- The data expressions of the grammar are read.
-use Rattle.std.specs.Prelude.{◌≡◌, ℕ, zero, suc, Bool, true, false, List, [], ◌∷◌, Option, Some, None, Ok, Err, refl}
+use Rattle.std.specs.Prelude.{◌≡◌, ℕ, suc, List, ◌∷◌, Ok, refl}
 use Rattle.std.proofs.Common.{◌∙◌}
 use Rattle.c_tokens.specs.declared.token.Sign.TheVariants as s
 use Rattle.c_tokens.specs.declared.token.Token.{Token}
 use Rattle.c_tokens.specs.declared.token.Token.TheVariants as t
-use Rattle.c_tokens.specs.Tokens.{Outcome, first, rest, sees, same_sign, expect}
+use Rattle.c_tokens.specs.Tokens.{same_sign, expect}
 use Rattle.c_tree.specs.declared.data.Expr.{Expr}
 use Rattle.c_tree.specs.declared.data.Expr.TheVariants as expr
 use Rattle.c_tree.specs.declared.index.Subscripts.{Subscripts}
 use Rattle.c_grammar.specs.Index.{Word, cell_of}
 use Rattle.c_grammar.specs.Data.{IsData, IsDataPart, IsDataFactor}
 use Rattle.c_grammar.specs.Data as g
-use Rattle.c_grammar.specs.Reader.{Reader, and_then, ◌>>=◌, pure, skip, many}
+use Rattle.c_grammar.specs.Reader.{◌>>=◌, pure, skip, many}
 use Rattle.c_grammar.specs.ReadIndex as index
 use Rattle.c_grammar.specs.ReadData as r
 use Rattle.c_grammar.proofs.Turns.{many_stops, many_goes_on}

@@ -1,19 +1,19 @@
 -- The index expressions of the grammar are read.
-use Rattle.std.specs.Prelude.{◌≡◌, ℕ, zero, suc, ◌+◌, ◌^◌, ◌≤◌, ◌<◌, Bool, true, false, nat_le, List, [], ◌∷◌, length, Option, Some, None, Ok, Err, ℤ, pos, refl}
-use Rattle.std.proofs.Common.{sym, ◌∙◌, ap, arith}
+use Rattle.std.specs.Prelude.{◌≡◌, ℕ, suc, ◌^◌, true, false, List, [], ◌∷◌, Option, Ok, pos, refl}
+use Rattle.std.proofs.Common.{◌∙◌}
 use Rattle.std.proofs.lemmas.Bool.{le-leb}
 use Rattle.c_tokens.specs.declared.token.Sign.{Sign}
 use Rattle.c_tokens.specs.declared.token.Sign.TheVariants as s
 use Rattle.c_tokens.specs.declared.token.Token.{Token}
 use Rattle.c_tokens.specs.declared.token.Token.TheVariants as t
-use Rattle.c_tokens.specs.Tokens.{Outcome, first, rest, sees, is_sign, same_sign, expect}
+use Rattle.c_tokens.specs.Tokens.{sees, same_sign, expect}
 use Rattle.c_tree.specs.declared.index.Index.{Index}
 use Rattle.c_tree.specs.declared.index.Index.TheVariants as tree
 use Rattle.c_tree.specs.declared.index.Subscripts.{Subscripts}
 use Rattle.c_tree.specs.declared.index.Subscripts.TheVariants as at
 use Rattle.c_grammar.specs.Index.{Word, IsConstant, IsDivisor, begins_with_number, IsIndex, IsPart, IsFactor, AreSubscripts, IsSubscript}
 use Rattle.c_grammar.specs.Index as g
-use Rattle.c_grammar.specs.Reader.{Reader, and_then, ◌>>=◌, ◌>>◌, pure, refuse, peek, skip, many, constant, divisor}
+use Rattle.c_grammar.specs.Reader.{Reader, ◌>>=◌, pure, skip, many, constant, divisor}
 use Rattle.c_grammar.specs.ReadIndex as r
 use Rattle.c_grammar.proofs.Turns.{many_stops, many_goes_on}
 use Rattle.c_grammar.proofs.LocalIndex.{next_part_eats, room_is_local}

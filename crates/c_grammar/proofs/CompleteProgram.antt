@@ -1,11 +1,11 @@
 -- The programs of the grammar are read.
-use Rattle.std.specs.Prelude.{◌≡◌, ℕ, zero, suc, ◌||◌, not, Bool, true, false, cond, List, [], ◌∷◌, ◌++◌, length, Option, Some, None, Ok, Err, refl, codes}
-use Rattle.std.proofs.Common.{sym, ◌∙◌, ap, subst, append_assoc}
+use Rattle.std.specs.Prelude.{◌≡◌, ℕ, suc, true, false, List, [], ◌∷◌, ◌++◌, Some, None, Ok, Err, refl, codes}
+use Rattle.std.proofs.Common.{sym, ◌∙◌, ap, append_assoc}
 use Rattle.std.proofs.lemmas.List.{append-nil}
 use Rattle.c_tokens.specs.declared.token.Sign.TheVariants as s
 use Rattle.c_tokens.specs.declared.token.Token.{Token}
 use Rattle.c_tokens.specs.declared.token.Token.TheVariants as t
-use Rattle.c_tokens.specs.Tokens.{Outcome, first, rest, sees, is_sign, same_sign, expect}
+use Rattle.c_tokens.specs.Tokens.{Outcome, first, sees, same_sign, expect}
 use Rattle.c_tree.specs.declared.index.Index.{Index}
 use Rattle.c_tree.specs.declared.statement.Stmt.{Stmt}
 use Rattle.c_tree.specs.declared.statement.Stmt.TheVariants as stmt
@@ -16,7 +16,7 @@ use Rattle.c_tree.specs.declared.program.Matrix.{Matrix}
 use Rattle.c_tree.specs.declared.program.Program.{Program}
 use Rattle.c_grammar.specs.declared.pieces.Section.{Section}
 use Rattle.c_grammar.specs.declared.pieces.Signature.{Signature}
-use Rattle.c_grammar.specs.Index.{Word, IsIndex, IsSubscript}
+use Rattle.c_grammar.specs.Index.{Word}
 use Rattle.c_grammar.specs.Statement.{IsStatement, AreStatements}
 use Rattle.c_grammar.specs.Statement as st
 use Rattle.c_grammar.specs.Program.{brackets, loops, guards, executor, inspector, with_declared, IsMatrix, AreMatrices, AreExtents, IsArray, AreArrays, AreParameters, IsDeclaration, IsItem, AreItems, AreSections, IsProgram}
@@ -27,7 +27,7 @@ use Rattle.c_grammar.specs.ReadStatement as statement
 use Rattle.c_grammar.specs.ReadProgram as r
 use Rattle.c_grammar.proofs.Turns.{many_stops, many_goes_on}
 use Rattle.c_grammar.proofs.LocalProgram.{next_matrix_eats, next_parameter_eats, next_item_eats}
-use Rattle.c_grammar.proofs.CompleteIndex.{EndsFactor, EndsIndex, closed, comma, reads_index, reads_subscript, subscript_begins}
+use Rattle.c_grammar.proofs.CompleteIndex.{EndsFactor, closed, comma, reads_index, reads_subscript, subscript_begins}
 use Rattle.c_grammar.proofs.CompleteStatement.{then_pure, statement_opens, statements_open, reads_statement, reads_statements}
 
 then_later : {X Y Z : Type 0} (o : Outcome X) (k : X → Reader Y) (m : Y → Reader Z) → and_then (and_then o k) m ≡ and_then o (λ x ts. and_then (k x ts) m)

@@ -1,12 +1,12 @@
 -- The statements of the grammar are read.
-use Rattle.std.specs.Prelude.{◌≡◌, ℕ, zero, suc, ◌-◌, ◌==◌, ◌&&◌, ◌||◌, Bool, true, false, cond, List, [], ◌∷◌, ◌++◌, Option, Some, None, Ok, Err, refl, bytes_eq}
-use Rattle.std.proofs.Common.{sym, ◌∙◌, ap, append_assoc, arith}
+use Rattle.std.specs.Prelude.{◌≡◌, ℕ, suc, ◌-◌, ◌==◌, ◌&&◌, ◌||◌, Bool, true, false, List, [], ◌∷◌, ◌++◌, Option, Some, Ok, Err, refl, bytes_eq}
+use Rattle.std.proofs.Common.{◌∙◌, ap, append_assoc, arith}
 use Rattle.std.proofs.Math.Dec.{eqb-suc-zero}
 use Rattle.std.proofs.lemmas.Slice.Eq.{bytes_eq-Decides}
 use Rattle.c_tokens.specs.declared.token.Sign.TheVariants as s
 use Rattle.c_tokens.specs.declared.token.Token.{Token}
 use Rattle.c_tokens.specs.declared.token.Token.TheVariants as t
-use Rattle.c_tokens.specs.Tokens.{Outcome, first, rest, sees, is_sign, same_sign, expect}
+use Rattle.c_tokens.specs.Tokens.{Outcome, first, sees, same_sign, expect}
 use Rattle.c_tree.specs.declared.data.Expr.{Expr}
 use Rattle.c_tree.specs.declared.index.Index.{Index}
 use Rattle.c_tree.specs.declared.index.Subscripts.{Subscripts}
@@ -17,10 +17,10 @@ use Rattle.c_tree.specs.declared.statement.Test.{Test}
 use Rattle.c_tree.specs.declared.statement.Stmt.{Stmt}
 use Rattle.c_tree.specs.declared.statement.Stmt.TheVariants as stmt
 use Rattle.c_grammar.specs.declared.pieces.Section.{Section}
-use Rattle.c_grammar.specs.Index.{Word, cell_of, AreSubscripts}
+use Rattle.c_grammar.specs.Index.{Word, cell_of}
 use Rattle.c_grammar.specs.Statement.{IsComparison, IsTest, AreTests, IsHow, takes_index, AreStatements, IsStatement, IsBody}
 use Rattle.c_grammar.specs.Statement as rule
-use Rattle.c_grammar.specs.Reader.{Reader, and_then, ◌>>=◌, pure, skip, many, name, word, is_name}
+use Rattle.c_grammar.specs.Reader.{Reader, and_then, ◌>>=◌, pure, skip, many, name, word}
 use Rattle.c_grammar.specs.ReadIndex as index
 use Rattle.c_grammar.specs.ReadData as values
 use Rattle.c_grammar.specs.ReadStatement as r

@@ -1,17 +1,16 @@
 -- What the reader of programs answers, in terms of the grammar.
-use Rattle.std.specs.Prelude.{◌≡◌, ℕ, ◌+◌, ◌-◌, List, [], ◌∷◌, ◌++◌, length, Result, Ok, Err, refl}
+use Rattle.std.specs.Prelude.{◌≡◌, ◌+◌, ◌-◌, List, [], ◌∷◌, ◌++◌, length, Ok, Err, refl}
 use Rattle.std.proofs.Common.{sym, ◌∙◌, ap, subst, append_assoc, arith}
 use Rattle.std.proofs.lemmas.List.{length-append, append-nil}
 use Rattle.c_tokens.specs.declared.token.Token.{Token}
 use Rattle.c_tokens.specs.Tokens.{Outcome}
 use Rattle.c_tree.specs.declared.program.Program.{Program}
 use Rattle.c_grammar.specs.Program.{IsProgram}
-use Rattle.c_grammar.specs.Texts.{IsNoText, BeginsText, IsNoWayOn, IsWrong}
+use Rattle.c_grammar.specs.Texts.{IsNoText, IsNoWayOn, IsWrong}
 use Rattle.c_grammar.specs.ReadProgram as r
 use Rattle.c_grammar.proofs.Local.{Local, stands, moved, value_is}
 use Rattle.c_grammar.proofs.LocalProgram.{program_local}
 use Rattle.c_grammar.proofs.CompleteProgram.{reads_program}
-use Rattle.c_grammar.proofs.SoundProgram.{program_sound}
 
 -- a text has at most one tree
 pub one_tree : (ts : List Token) (p q : Program) → IsProgram ts p → IsProgram ts q → q ≡ p

@@ -1,12 +1,12 @@
 -- A reader looks at no more than the next token: whatever follows that one, it answers the same.
-use Rattle.std.specs.Prelude.{◌≡◌, ℕ, zero, suc, ◌+◌, ◌<◌, ◌≤◌, ◌&&◌, ◌^◌, nat_le, Bool, true, false, cond, List, [], ◌∷◌, ◌++◌, length, Option, Some, None, Result, Ok, Err, pos, refl}
+use Rattle.std.specs.Prelude.{◌≡◌, ℕ, ◌<◌, ◌≤◌, ◌&&◌, ◌^◌, nat_le, Bool, true, false, cond, List, [], ◌∷◌, ◌++◌, length, Option, Some, Ok, Err, pos, refl}
 use Rattle.std.proofs.Common.{sym, ◌∙◌, ap, append_assoc, arith}
 use Rattle.std.proofs.lemmas.List.{length-append}
 use Rattle.c_tokens.specs.declared.token.Sign.{Sign}
 use Rattle.c_tokens.specs.declared.token.Token.{Token}
 use Rattle.c_tokens.specs.declared.token.Token.TheVariants as t
 use Rattle.c_tokens.specs.Tokens.{Outcome, first, rest, sees, expect}
-use Rattle.c_grammar.specs.Reader.{Reader, and_then, ◌>>=◌, ◌>>◌, pure, refuse, peek, skip, name, name_by, is_name, word, constant, constant_by, divisor, divisor_by}
+use Rattle.c_grammar.specs.Reader.{Reader, and_then, ◌>>=◌, pure, refuse, peek, skip, name, name_by, is_name, word, constant, constant_by, divisor, divisor_by}
 
 -- where the reader stands, when it has read or refused
 abbrev pub stands : {A : Type 0} → Outcome A → List Token

@@ -1,18 +1,15 @@
 -- Readers of data look at no more than the next token.
-use Rattle.std.specs.Prelude.{◌≡◌, ℕ, zero, suc, cond, List, [], ◌∷◌, Option, Some, None, Result, Ok, Err, refl}
-use Rattle.c_tokens.specs.declared.token.Sign.{Sign}
+use Rattle.std.specs.Prelude.{ℕ, zero, suc, Option, Some, None}
 use Rattle.c_tokens.specs.declared.token.Sign.TheVariants as s
 use Rattle.c_tokens.specs.declared.token.Token.{Token}
 use Rattle.c_tokens.specs.declared.token.Token.TheVariants as t
 use Rattle.c_tree.specs.declared.data.Expr.{Expr}
 use Rattle.c_tree.specs.declared.data.Expr.TheVariants as expr
-use Rattle.c_tokens.specs.Tokens.{Outcome, first, is_sign, expect}
 use Rattle.c_grammar.specs.Index.{Word, cell_of}
-use Rattle.c_grammar.specs.Reader.{Reader, and_then, ◌>>=◌, ◌>>◌, pure, refuse, peek, skip, many}
-use Rattle.c_grammar.specs.ReadIndex as index
+use Rattle.c_grammar.specs.Reader.{Reader, ◌>>=◌, pure, peek, skip, many}
 use Rattle.c_grammar.specs.ReadData as r
 use Rattle.c_grammar.specs.ReadData.{Room}
-use Rattle.c_grammar.proofs.Local.{IsLocal, Eats, pure_local, refuse_local, skip_local, peek_local, bind_local, cond_local, choice_local, expect_local}
+use Rattle.c_grammar.proofs.Local.{IsLocal, pure_local, refuse_local, skip_local, peek_local, bind_local, expect_local}
 use Rattle.c_grammar.proofs.Turns.{IsEating, AreLocal, many_local}
 use Rattle.c_grammar.proofs.LocalIndex.{one_way_eats, one_way_local, two_ways_eats, two_ways_local, subscripts_local, index_local}
 

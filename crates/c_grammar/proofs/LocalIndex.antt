@@ -1,19 +1,18 @@
 -- Readers of index expressions look at no more than the next token.
-use Rattle.std.specs.Prelude.{◌≡◌, ℕ, zero, suc, Bool, true, false, cond, List, [], ◌∷◌, Option, Some, None, Result, Ok, Err, ℤ, refl, ◌⊎◌}
-use Rattle.std.proofs.Common.{sym, ◌∙◌, ap, subst, inl, inr, arith}
+use Rattle.std.specs.Prelude.{◌≡◌, ℕ, zero, suc, Bool, true, false, cond, List, [], ◌∷◌, Option, Some, None, ℤ, refl, ◌⊎◌}
+use Rattle.std.proofs.Common.{sym, subst, inl, inr}
 use Rattle.c_tokens.specs.declared.token.Sign.{Sign}
 use Rattle.c_tokens.specs.declared.token.Sign.TheVariants as s
 use Rattle.c_tokens.specs.declared.token.Token.{Token}
 use Rattle.c_tokens.specs.declared.token.Token.TheVariants as t
 use Rattle.c_tree.specs.declared.index.Index.{Index}
 use Rattle.c_tree.specs.declared.index.Index.TheVariants as tree
-use Rattle.c_tree.specs.declared.index.Subscripts.{Subscripts}
 use Rattle.c_tree.specs.declared.index.Subscripts.TheVariants as at
-use Rattle.c_tokens.specs.Tokens.{Outcome, first, rest, sees, is_sign, expect}
+use Rattle.c_tokens.specs.Tokens.{first, is_sign}
 use Rattle.c_grammar.specs.Index.{Word, cell_of}
-use Rattle.c_grammar.specs.Reader.{Reader, and_then, ◌>>=◌, ◌>>◌, pure, refuse, peek, skip, many, constant, divisor}
+use Rattle.c_grammar.specs.Reader.{Reader, ◌>>=◌, pure, refuse, peek, skip, many, constant}
 use Rattle.c_grammar.specs.ReadIndex as r
-use Rattle.c_grammar.proofs.Local.{IsLocal, Eats, pure_local, refuse_local, skip_local, peek_local, bind_local, cond_local, choice_local, expect_local, constant_local, divisor_local, skip_eats}
+use Rattle.c_grammar.proofs.Local.{IsLocal, Eats, pure_local, refuse_local, skip_local, peek_local, bind_local, choice_local, expect_local, constant_local, divisor_local, skip_eats}
 use Rattle.c_grammar.proofs.Turns.{IsEating, AreLocal, many_local}
 
 -- ---- further pieces behind one of two signs

@@ -1,7 +1,6 @@
 -- Readers of programs look at no more than the next token.
-use Rattle.std.specs.Prelude.{◌≡◌, ℕ, zero, suc, ◌||◌, not, Bool, true, false, cond, List, [], ◌∷◌, ◌++◌, Option, Some, None, Result, Ok, Err, refl, codes}
+use Rattle.std.specs.Prelude.{◌≡◌, ℕ, zero, suc, ◌||◌, not, Bool, true, false, cond, List, [], ◌∷◌, ◌++◌, Option, Some, None, codes}
 use Rattle.std.proofs.Common.{subst}
-use Rattle.c_tokens.specs.declared.token.Sign.{Sign}
 use Rattle.c_tokens.specs.declared.token.Sign.TheVariants as s
 use Rattle.c_tokens.specs.declared.token.Token.{Token}
 use Rattle.c_tree.specs.declared.index.Index.{Index}
@@ -10,11 +9,11 @@ use Rattle.c_tree.specs.declared.statement.Stmt.TheVariants as stmt
 use Rattle.c_tree.specs.declared.program.Kind.{Kind}
 use Rattle.c_tree.specs.declared.program.Kind.TheVariants as kind
 use Rattle.c_tree.specs.declared.program.Matrix.{Matrix}
-use Rattle.c_tokens.specs.Tokens.{Outcome, first, is_sign, sees, expect}
+use Rattle.c_tokens.specs.Tokens.{first, is_sign, expect}
 use Rattle.c_grammar.specs.declared.pieces.Signature.{Signature}
 use Rattle.c_grammar.specs.Index.{Word}
 use Rattle.c_grammar.specs.Program.{brackets, loops, guards, executor, inspector, with_declared}
-use Rattle.c_grammar.specs.Reader.{Reader, and_then, ◌>>=◌, ◌>>◌, pure, refuse, skip, many, name, word}
+use Rattle.c_grammar.specs.Reader.{◌>>=◌, pure, skip, many, name}
 use Rattle.c_grammar.specs.ReadIndex as index
 use Rattle.c_grammar.specs.ReadStatement as statement
 use Rattle.c_grammar.specs.ReadProgram as r

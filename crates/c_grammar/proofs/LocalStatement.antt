@@ -1,9 +1,7 @@
 -- Readers of statements look at no more than the next token, and each statement begins with one.
-use Rattle.std.specs.Prelude.{◌≡◌, ℕ, zero, suc, ◌-◌, ◌==◌, ◌||◌, ◌&&◌, Bool, true, false, cond, List, [], ◌∷◌, ◌++◌, Option, Some, None, Result, Ok, Err, refl}
+use Rattle.std.specs.Prelude.{◌≡◌, ℕ, zero, suc, ◌-◌, ◌==◌, ◌||◌, ◌&&◌, Bool, true, false, cond, List, [], ◌∷◌, ◌++◌, Some, None, Err}
 use Rattle.std.proofs.Common.{subst}
-use Rattle.c_tokens.specs.declared.token.Sign.{Sign}
 use Rattle.c_tokens.specs.declared.token.Sign.TheVariants as s
-use Rattle.c_tokens.specs.declared.token.Token.{Token}
 use Rattle.c_tree.specs.declared.index.Index.{Index}
 use Rattle.c_tree.specs.declared.index.Subscripts.{Subscripts}
 use Rattle.c_tree.specs.declared.statement.Cmp.{Cmp}
@@ -13,14 +11,12 @@ use Rattle.c_tree.specs.declared.statement.How.TheVariants as how
 use Rattle.c_tree.specs.declared.statement.Test.{Test}
 use Rattle.c_tree.specs.declared.statement.Stmt.{Stmt}
 use Rattle.c_tree.specs.declared.statement.Stmt.TheVariants as stmt
-use Rattle.c_tokens.specs.Tokens.{Outcome, first, is_sign, sees, expect}
+use Rattle.c_tokens.specs.Tokens.{first, is_sign, sees, expect}
 use Rattle.c_grammar.specs.declared.pieces.Section.{Section}
-use Rattle.c_grammar.specs.declared.pieces.Range.{Range}
 use Rattle.c_grammar.specs.Index.{Word, cell_of}
 use Rattle.c_grammar.specs.Statement.{takes_index}
-use Rattle.c_grammar.specs.Reader.{Reader, and_then, ◌>>=◌, ◌>>◌, pure, refuse, skip, many, name, word}
+use Rattle.c_grammar.specs.Reader.{Reader, ◌>>=◌, ◌>>◌, pure, refuse, skip, many, name}
 use Rattle.c_grammar.specs.ReadIndex as index
-use Rattle.c_grammar.specs.ReadData as values
 use Rattle.c_grammar.specs.ReadStatement as r
 use Rattle.c_grammar.proofs.Local.{IsLocal, Eats, IsEager, pure_local, refuse_local, skip_local, bind_local, cond_local, choice_local, expect_local, word_local, name_local, refuse_eats, bind_eager, expect_eager, name_eager, cond_eats}
 use Rattle.c_grammar.proofs.Turns.{IsEating, AreLocal, many_local}

@@ -1,16 +1,16 @@
 -- What is read as a data expression is one.
-use Rattle.std.specs.Prelude.{◌≡◌, ℕ, zero, suc, Bool, true, false, cond, List, [], ◌∷◌, Option, Some, None, Ok, Err, refl, ◌⊎◌}
+use Rattle.std.specs.Prelude.{◌≡◌, ℕ, zero, suc, List, [], ◌∷◌, Option, Some, None, Ok, refl}
 use Rattle.std.proofs.Common.{sym, ◌∙◌, ap, inl, inr}
 use Rattle.c_tokens.specs.declared.token.Sign.TheVariants as s
 use Rattle.c_tokens.specs.declared.token.Token.{Token}
 use Rattle.c_tokens.specs.declared.token.Token.TheVariants as t
-use Rattle.c_tokens.specs.Tokens.{Outcome, first, rest, sees, is_sign, expect}
+use Rattle.c_tokens.specs.Tokens.{first, rest}
 use Rattle.c_tree.specs.declared.data.Expr.{Expr}
 use Rattle.c_tree.specs.declared.data.Expr.TheVariants as expr
-use Rattle.c_grammar.specs.Index.{Word, cell_of, IsIndex}
+use Rattle.c_grammar.specs.Index.{Word, IsIndex}
 use Rattle.c_grammar.specs.Data.{IsData, IsDataPart, IsDataFactor}
 use Rattle.c_grammar.specs.Data as g
-use Rattle.c_grammar.specs.Reader.{Reader, and_then, ◌>>=◌, pure, skip, many}
+use Rattle.c_grammar.specs.Reader.{Reader, ◌>>=◌, pure, skip, many}
 use Rattle.c_grammar.specs.ReadIndex as index
 use Rattle.c_grammar.specs.ReadData as r
 use Rattle.c_grammar.specs.ReadData.{Room}

@@ -1,6 +1,6 @@
 -- What is read as an index expression is one.
-use Rattle.std.specs.Prelude.{◌≡◌, ℕ, zero, suc, ◌^◌, ◌≤◌, ◌&&◌, Bool, true, false, cond, nat_le, List, [], ◌∷◌, Option, Some, None, Result, Ok, Err, ℤ, pos, refl, ◌⊎◌}
-use Rattle.std.proofs.Common.{rules, sym, ◌∙◌, ap, subst, inl, inr, arith}
+use Rattle.std.specs.Prelude.{◌≡◌, ℕ, zero, suc, ◌^◌, ◌&&◌, Bool, true, false, cond, nat_le, List, [], ◌∷◌, Option, Some, None, Ok, ℤ, pos, refl, ◌⊎◌}
+use Rattle.std.proofs.Common.{rules, sym, ◌∙◌, ap, subst, inl, inr}
 use Rattle.std.proofs.lemmas.Bool.{leb-true}
 use denote.Enum.Bare.{same_true}
 use Rattle.c_tokens.specs.contracts.token.Sign.{the_type}
@@ -8,16 +8,15 @@ use Rattle.c_tokens.specs.declared.token.Sign.{Sign}
 use Rattle.c_tokens.specs.declared.token.Sign.TheVariants as s
 use Rattle.c_tokens.specs.declared.token.Token.{Token}
 use Rattle.c_tokens.specs.declared.token.Token.TheVariants as t
-use Rattle.c_tokens.specs.Tokens.{Outcome, first, rest, sees, is_sign, same_sign, expect}
+use Rattle.c_tokens.specs.Tokens.{Outcome, first, rest, sees, same_sign, expect}
 use Rattle.c_tree.specs.declared.index.Index.{Index}
 use Rattle.c_tree.specs.declared.index.Index.TheVariants as tree
 use Rattle.c_tree.specs.declared.index.Subscripts.{Subscripts}
-use Rattle.c_tree.specs.declared.index.Subscripts.TheVariants as at
 use Rattle.c_grammar.specs.Index.{Word, IsConstant, IsDivisor, begins_with_number, IsIndex, IsPart, IsFactor, AreSubscripts, IsSubscript}
 use Rattle.c_grammar.specs.Index as g
-use Rattle.c_grammar.specs.Reader.{Reader, and_then, ◌>>=◌, ◌>>◌, pure, refuse, peek, skip, many, constant, divisor, name}
+use Rattle.c_grammar.specs.Reader.{Reader, and_then, ◌>>=◌, pure, many, constant, divisor, name}
 use Rattle.c_grammar.specs.ReadIndex as r
-use Rattle.c_grammar.proofs.Local.{Bound, bound, value_is}
+use Rattle.c_grammar.proofs.Local.{bound, value_is}
 use Rattle.c_grammar.proofs.Turns.{IsKept, many_keep}
 use Rattle.c_grammar.proofs.LocalIndex.{two_ways}
 

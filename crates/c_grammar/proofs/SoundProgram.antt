@@ -1,11 +1,11 @@
 -- What is read as a program is one.
-use Rattle.std.specs.Prelude.{◌≡◌, ℕ, zero, suc, ◌||◌, not, Bool, true, false, cond, List, [], ◌∷◌, ◌++◌, length, Option, Some, None, Ok, Err, refl, ◌⊎◌, codes}
-use Rattle.std.proofs.Common.{sym, ◌∙◌, ap, subst, inl, inr, append_assoc}
+use Rattle.std.specs.Prelude.{◌≡◌, ℕ, suc, ◌||◌, not, Bool, true, false, List, [], ◌∷◌, ◌++◌, Option, Some, None, Ok, refl, ◌⊎◌, codes}
+use Rattle.std.proofs.Common.{sym, ◌∙◌, ap, subst, inl, inr}
 use Rattle.c_tokens.specs.declared.token.Sign.{Sign}
 use Rattle.c_tokens.specs.declared.token.Sign.TheVariants as s
 use Rattle.c_tokens.specs.declared.token.Token.{Token}
 use Rattle.c_tokens.specs.declared.token.Token.TheVariants as t
-use Rattle.c_tokens.specs.Tokens.{Outcome, first, rest, sees, is_sign, expect}
+use Rattle.c_tokens.specs.Tokens.{first, rest, sees, is_sign, expect}
 use Rattle.c_tree.specs.declared.index.Index.{Index}
 use Rattle.c_tree.specs.declared.statement.Stmt.{Stmt}
 use Rattle.c_tree.specs.declared.statement.Stmt.TheVariants as stmt
@@ -19,7 +19,7 @@ use Rattle.c_grammar.specs.Index.{Word, IsIndex, IsSubscript}
 use Rattle.c_grammar.specs.Statement.{AreStatements}
 use Rattle.c_grammar.specs.Program.{brackets, loops, guards, executor, inspector, with_declared, IsMatrix, AreMatrices, AreExtents, IsArray, AreArrays, AreParameters, IsDeclaration, IsItem, AreItems, AreSections, IsProgram}
 use Rattle.c_grammar.specs.Program as rule
-use Rattle.c_grammar.specs.Reader.{Reader, and_then, ◌>>=◌, ◌>>◌, pure, skip, many, name, word}
+use Rattle.c_grammar.specs.Reader.{Reader, ◌>>=◌, ◌>>◌, pure, skip, many, name, word}
 use Rattle.c_grammar.specs.ReadIndex as index
 use Rattle.c_grammar.specs.ReadStatement as statement
 use Rattle.c_grammar.specs.ReadProgram as r

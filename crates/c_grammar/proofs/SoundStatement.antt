@@ -1,29 +1,24 @@
 -- What is read as a statement is one.
-use Rattle.std.specs.Prelude.{◌≡◌, ℕ, zero, suc, ◌+◌, ◌-◌, ◌<◌, ◌==◌, ◌&&◌, ◌||◌, Bool, true, false, cond, List, [], ◌∷◌, ◌++◌, Option, Some, None, Ok, Err, refl, ◌⊎◌, bytes_eq}
+use Rattle.std.specs.Prelude.{◌≡◌, ℕ, zero, suc, ◌-◌, ◌==◌, ◌&&◌, ◌||◌, Bool, true, false, cond, List, [], ◌∷◌, ◌++◌, Some, None, Ok, refl, bytes_eq}
 use Rattle.std.proofs.Common.{sym, ◌∙◌, ap, subst, inl, inr, arith}
 use Rattle.std.proofs.lemmas.Slice.Eq.{bytes_eq-Decides}
-use Rattle.c_tokens.specs.declared.token.Sign.{Sign}
 use Rattle.c_tokens.specs.declared.token.Sign.TheVariants as s
 use Rattle.c_tokens.specs.declared.token.Token.{Token}
 use Rattle.c_tokens.specs.declared.token.Token.TheVariants as t
-use Rattle.c_tokens.specs.Tokens.{Outcome, first, rest, sees, is_sign, expect}
-use Rattle.c_tree.specs.declared.data.Expr.{Expr}
+use Rattle.c_tokens.specs.Tokens.{first, rest, sees, is_sign, expect}
 use Rattle.c_tree.specs.declared.index.Index.{Index}
 use Rattle.c_tree.specs.declared.index.Subscripts.{Subscripts}
-use Rattle.c_tree.specs.declared.statement.Cmp.{Cmp}
-use Rattle.c_tree.specs.declared.statement.Cmp.TheVariants as cmp
 use Rattle.c_tree.specs.declared.statement.How.{How}
 use Rattle.c_tree.specs.declared.statement.How.TheVariants as how
 use Rattle.c_tree.specs.declared.statement.Test.{Test}
 use Rattle.c_tree.specs.declared.statement.Stmt.{Stmt}
-use Rattle.c_tree.specs.declared.statement.Stmt.TheVariants as stmt
 use Rattle.c_grammar.specs.declared.pieces.Section.{Section}
 use Rattle.c_grammar.specs.declared.pieces.Range.{Range}
-use Rattle.c_grammar.specs.Index.{Word, cell_of, IsIndex, AreSubscripts}
+use Rattle.c_grammar.specs.Index.{Word, IsIndex, AreSubscripts}
 use Rattle.c_grammar.specs.Data.{IsData}
 use Rattle.c_grammar.specs.Statement.{IsComparison, IsTest, AreTests, IsHow, is_growable, is_write, takes_index, AreStatements, IsStatement, IsBody}
 use Rattle.c_grammar.specs.Statement as rule
-use Rattle.c_grammar.specs.Reader.{Reader, and_then, ◌>>=◌, pure, skip, many, name, word, is_name}
+use Rattle.c_grammar.specs.Reader.{Reader, ◌>>=◌, pure, skip, many, name, word}
 use Rattle.c_grammar.specs.ReadIndex as index
 use Rattle.c_grammar.specs.ReadData as values
 use Rattle.c_grammar.specs.ReadStatement as r

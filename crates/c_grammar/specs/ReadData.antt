@@ -1,14 +1,14 @@
 -- Data expressions, read from the left.
-use Rattle.std.specs.Prelude.{ℕ, zero, suc, if◌then◌else◌, List, Option, Some, None, Ok, Err}
+use Rattle.std.specs.Prelude.{ℕ, zero, suc, if◌then◌else◌, Option, Some, None}
 use Rattle.c_tokens.specs.declared.token.Sign.TheVariants as s
 use Rattle.c_tokens.specs.declared.token.Token.{Token}
 use Rattle.c_tokens.specs.declared.token.Token.TheVariants as t
 use Rattle.c_tree.specs.declared.data.Expr.{Expr}
 use Rattle.c_tree.specs.declared.data.Expr.TheVariants as expr
 use Rattle.c_tree.specs.declared.index.Index.{Index}
-use Rattle.c_tokens.specs.Tokens.{Outcome, is_sign, sees, expect}
+use Rattle.c_tokens.specs.Tokens.{is_sign, expect}
 use Rattle.c_grammar.specs.Index.{Word, cell_of}
-use Rattle.c_grammar.specs.Reader.{Reader, and_then, ◌>>=◌, ◌>>◌, pure, refuse, peek, skip, many}
+use Rattle.c_grammar.specs.Reader.{Reader, ◌>>=◌, ◌>>◌, pure, refuse, peek, skip, many}
 use Rattle.c_grammar.specs.ReadIndex as index
 
 -- Readers of what stands in a bracket: a subscript, and data.

@@ -1,5 +1,5 @@
 -- Index expressions, read from the left. A reader refuses at the first token with which no text goes on.
-use Rattle.std.specs.Prelude.{ℕ, zero, suc, if◌then◌else◌, List, Option, Some, None, Ok, Err, ℤ}
+use Rattle.std.specs.Prelude.{ℕ, zero, suc, if◌then◌else◌, Option, Some, None, Ok, Err, ℤ}
 use Rattle.c_tokens.specs.declared.token.Sign.TheVariants as s
 use Rattle.c_tokens.specs.declared.token.Token.{Token}
 use Rattle.c_tokens.specs.declared.token.Token.TheVariants as t
@@ -7,9 +7,9 @@ use Rattle.c_tree.specs.declared.index.Index.{Index}
 use Rattle.c_tree.specs.declared.index.Index.TheVariants as tree
 use Rattle.c_tree.specs.declared.index.Subscripts.{Subscripts}
 use Rattle.c_tree.specs.declared.index.Subscripts.TheVariants as at
-use Rattle.c_tokens.specs.Tokens.{Outcome, is_sign, sees, expect}
+use Rattle.c_tokens.specs.Tokens.{is_sign, sees, expect}
 use Rattle.c_grammar.specs.Index.{Word, cell_of}
-use Rattle.c_grammar.specs.Reader.{Reader, and_then, ◌>>=◌, ◌>>◌, pure, refuse, peek, skip, many, constant, divisor}
+use Rattle.c_grammar.specs.Reader.{Reader, ◌>>=◌, ◌>>◌, pure, refuse, peek, skip, many, constant, divisor}
 
 -- `inside` reads an index expression in a bracket.
 module _ (inside : Reader Index) where

@@ -1,5 +1,5 @@
 -- Programs, read from the left.
-use Rattle.std.specs.Prelude.{ℕ, zero, suc, Bool, true, false, ◌||◌, not, if◌then◌else◌, List, [], ◌∷◌, ◌++◌, Option, Some, None, Ok, Err, codes}
+use Rattle.std.specs.Prelude.{ℕ, zero, suc, Bool, true, false, ◌||◌, not, if◌then◌else◌, List, [], ◌∷◌, ◌++◌, Option, Some, None, Ok, codes}
 use Rattle.c_tokens.specs.declared.token.Sign.TheVariants as s
 use Rattle.c_tokens.specs.declared.token.Token.{Token}
 use Rattle.c_tree.specs.declared.index.Index.{Index}
@@ -10,12 +10,11 @@ use Rattle.c_tree.specs.declared.program.Kind.TheVariants as kind
 use Rattle.c_tree.specs.declared.program.Array.{Array}
 use Rattle.c_tree.specs.declared.program.Matrix.{Matrix}
 use Rattle.c_tree.specs.declared.program.Program.{Program}
-use Rattle.c_tokens.specs.Tokens.{Outcome, first, is_sign, sees, expect}
-use Rattle.c_grammar.specs.declared.pieces.Section.{Section}
+use Rattle.c_tokens.specs.Tokens.{first, is_sign, sees, expect}
 use Rattle.c_grammar.specs.declared.pieces.Signature.{Signature}
 use Rattle.c_grammar.specs.Index.{Word}
 use Rattle.c_grammar.specs.Program.{brackets, loops, guards, executor, inspector, with_declared}
-use Rattle.c_grammar.specs.Reader.{Reader, and_then, ◌>>=◌, ◌>>◌, pure, refuse, skip, many, name, word}
+use Rattle.c_grammar.specs.Reader.{Reader, ◌>>=◌, ◌>>◌, pure, skip, many, name, word}
 use Rattle.c_grammar.specs.ReadIndex as index
 use Rattle.c_grammar.specs.ReadStatement as statement
 

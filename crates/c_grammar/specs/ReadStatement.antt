@@ -2,7 +2,6 @@
 use Rattle.std.specs.Prelude.{ℕ, zero, suc, ◌==◌, ◌-◌, ◌||◌, ◌&&◌, if◌then◌else◌, List, [], ◌∷◌, ◌++◌, Option, Some, None, Ok, Err}
 use Rattle.c_tokens.specs.declared.token.Sign.TheVariants as s
 use Rattle.c_tokens.specs.declared.token.Token.{Token}
-use Rattle.c_tree.specs.declared.data.Expr.{Expr}
 use Rattle.c_tree.specs.declared.index.Index.{Index}
 use Rattle.c_tree.specs.declared.index.Subscripts.{Subscripts}
 use Rattle.c_tree.specs.declared.statement.Cmp.{Cmp}
@@ -12,12 +11,12 @@ use Rattle.c_tree.specs.declared.statement.How.TheVariants as how
 use Rattle.c_tree.specs.declared.statement.Test.{Test}
 use Rattle.c_tree.specs.declared.statement.Stmt.{Stmt}
 use Rattle.c_tree.specs.declared.statement.Stmt.TheVariants as stmt
-use Rattle.c_tokens.specs.Tokens.{Outcome, is_sign, sees, expect, rest}
+use Rattle.c_tokens.specs.Tokens.{is_sign, sees, expect, rest}
 use Rattle.c_grammar.specs.declared.pieces.Section.{Section}
 use Rattle.c_grammar.specs.declared.pieces.Range.{Range}
 use Rattle.c_grammar.specs.Index.{Word, cell_of}
 use Rattle.c_grammar.specs.Statement.{takes_index}
-use Rattle.c_grammar.specs.Reader.{Reader, and_then, ◌>>=◌, ◌>>◌, pure, refuse, skip, many, name, word}
+use Rattle.c_grammar.specs.Reader.{Reader, ◌>>=◌, ◌>>◌, pure, refuse, skip, many, name, word}
 use Rattle.c_grammar.specs.ReadIndex as index
 use Rattle.c_grammar.specs.ReadData as values
 

@@ -1,9 +1,8 @@
 -- Readers of tokens: a value and the tokens after it, or the tokens from the first one that doesn't fit.
-use Rattle.std.specs.Prelude.{◌≡◌, ℕ, zero, suc, ◌^◌, ◌≤◌, nat_le, ◌&&◌, Bool, false, if◌then◌else◌, List, [], ◌∷◌, length, Option, Some, None, Ok, Err, ℤ, pos, bytes_eq}
-use Rattle.c_tokens.specs.declared.token.Sign.{Sign}
+use Rattle.std.specs.Prelude.{ℕ, zero, suc, ◌^◌, nat_le, ◌&&◌, Bool, false, if◌then◌else◌, List, length, Option, Some, None, Ok, Err, ℤ, pos, bytes_eq}
 use Rattle.c_tokens.specs.declared.token.Token.{Token}
 use Rattle.c_tokens.specs.declared.token.Token.TheVariants as t
-use Rattle.c_tokens.specs.Tokens.{Outcome, first, rest, is_sign}
+use Rattle.c_tokens.specs.Tokens.{Outcome, first, rest}
 
 abbrev pub Reader : Type 0 → Type 0
 Reader A = List Token → Outcome A

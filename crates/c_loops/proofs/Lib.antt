@@ -5,3 +5,4 @@ pub mod DataParts
 pub mod Statements
 pub mod Lists
 pub mod Whole
+pub mod Texts

@@ -1,12 +1,11 @@
 -- The turns of a sum.
-use Rattle.std.specs.Prelude.{◌≡◌, ℕ, ◌<◌, Bool, true, false, cond, List, length, Option, Some, None, Ok, Err, refl}
-use Rattle.std.proofs.Common.{◌∙◌, ap}
+use Rattle.std.specs.Prelude.{◌≡◌, ℕ, ◌<◌, true, false, List, length, Some, Ok, Err, refl}
 use Rattle.c_tokens.specs.declared.token.Sign.TheVariants as s
 use Rattle.c_tokens.specs.declared.token.Token.{Token}
 use Rattle.c_tree.specs.declared.index.Index.{Index}
 use Rattle.c_tree.specs.declared.index.Index.TheVariants as tree
-use Rattle.c_tokens.specs.Tokens.{Outcome, first, rest, sees}
-use Rattle.c_grammar.specs.Reader.{Reader, and_then, ◌>>=◌, pure, skip, many}
+use Rattle.c_tokens.specs.Tokens.{first, rest, sees}
+use Rattle.c_grammar.specs.Reader.{Reader, ◌>>=◌, pure, skip, many}
 use Rattle.c_grammar.specs.ReadIndex as index
 use Rattle.c_grammar.proofs.Turns.{IsEating, many_stops}
 use Rattle.c_loops.proofs.Turned.{turned, stopped}

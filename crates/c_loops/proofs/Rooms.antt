@@ -1,6 +1,6 @@
 -- The brackets that may still be opened.
-use Rattle.std.specs.Prelude.{◌≡◌, ℕ, zero, suc, ◌+◌, ◌-◌, ◌<◌, ◌≤◌, true, List, [], ◌∷◌, ◌++◌, Some, None, Ok, Err, refl}
-use Rattle.std.proofs.Common.{ap, ◌∙◌, arith}
+use Rattle.std.specs.Prelude.{◌≡◌, ℕ, suc, ◌+◌, ◌-◌, ◌<◌, ◌≤◌, true, List, [], ◌∷◌, ◌++◌, Some, None, Ok, Err}
+use Rattle.std.proofs.Common.{ap, arith}
 use Rattle.c_grammar.specs.ReadIndex as index
 use Rattle.c_grammar.specs.ReadData as values
 use Rattle.c_grammar.specs.ReadStatement as statement

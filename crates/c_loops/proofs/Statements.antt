@@ -1,9 +1,9 @@
 -- The turns of the lists of tests and statements.
-use Rattle.std.specs.Prelude.{◌≡◌, ℕ, ◌<◌, Bool, true, false, cond, List, [], ◌∷◌, ◌++◌, length, Option, Some, None, Ok, Err, refl}
+use Rattle.std.specs.Prelude.{◌≡◌, ℕ, ◌<◌, true, false, List, [], ◌∷◌, ◌++◌, length, Some, Ok, Err, refl}
 use Rattle.c_tokens.specs.declared.token.Sign.TheVariants as s
 use Rattle.c_tokens.specs.declared.token.Token.{Token}
-use Rattle.c_tokens.specs.Tokens.{Outcome, first, rest, sees}
-use Rattle.c_grammar.specs.Reader.{Reader, and_then, ◌>>=◌, ◌>>◌, pure, skip, many}
+use Rattle.c_tokens.specs.Tokens.{first, rest, sees}
+use Rattle.c_grammar.specs.Reader.{Reader, ◌>>=◌, pure, skip, many}
 use Rattle.c_grammar.proofs.Turns.{IsEating, many_stops}
 use Rattle.c_loops.proofs.Turned.{turned, stopped}
 use Rattle.c_tree.specs.declared.statement.Test.{Test}

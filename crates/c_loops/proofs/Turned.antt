@@ -1,8 +1,8 @@
 -- A turn of a list of pieces, once it is known which piece is read.
-use Rattle.std.specs.Prelude.{◌≡◌, ℕ, ◌<◌, List, length, Option, Some, Ok, Err}
+use Rattle.std.specs.Prelude.{◌≡◌, List, Option, Some, Ok, Err}
 use Rattle.std.proofs.Common.{◌∙◌, ap}
 use Rattle.c_tokens.specs.declared.token.Token.{Token}
-use Rattle.c_tokens.specs.Tokens.{Outcome, first}
+use Rattle.c_tokens.specs.Tokens.{first}
 use Rattle.c_grammar.specs.Reader.{Reader, and_then, many}
 use Rattle.c_grammar.proofs.Turns.{IsEating, many_goes_on}
 

@@ -6,6 +6,9 @@ use Rattle.c_tree.specs.declared.program.Program.{Program}
 use Rattle.c_judge.specs.declared.faults.ProgramFault.{ProgramFault}
 use Rattle.c_judge.specs.declared.faults.ProgramFault.TheVariants.{Syntax}
 use Rattle.c_judge.specs.Rules.{fault_of}
+use Rattle.c_tokens.specs.Pieces.{tokens_of}
+use Rattle.c_grammar.specs.Program.{IsProgram}
+use Rattle.c_grammar.specs.Texts.{IsNoText, IsWrong}
 use Rattle.c_loops.specs.Text.{tree_of}
 
 abbrev pub unless : Program → Option ProgramFault → Result Program ProgramFault
@@ -25,3 +28,8 @@ abbrev pub Reads : Result Program ProgramFault → Result Program (Stop ProgramF
 Reads wanted (Ok p) = wanted ≡ Ok p
 Reads wanted (Err (Refused fault)) = wanted ≡ Err fault
 Reads wanted (Err NoMemory) = Unit {0}
+
+-- Why a text is refused: it isn't in the grammar, and no text goes on with that token; or its tree breaks this rule first.
+pub data IsCause (text : List ℕ) : ProgramFault → Type 0 where
+  syntax : {token : ℕ} → IsNoText (tokens_of text) → IsWrong (tokens_of text) token → IsCause text (Syntax token)
+  rule : {p : Program} {f : ProgramFault} → IsProgram (tokens_of text) p → fault_of p ≡ Some f → IsCause text f

@@ -26,6 +26,12 @@ whole all (Err rest) = Err (number_of all rest)
 unfoldable pub tree_of : List ℕ → Result Program ℕ
 tree_of text = whole (tokens_of text) (r.program (tokens_of text))
 
+-- a refusal has this fact
+abbrev pub IfRefused : {A F : Type 0} → Result A (Stop F) → (F → Type 0) → Type 0
+IfRefused (Ok a) P = Unit {0}
+IfRefused (Err (Refused f)) P = P f
+IfRefused (Err NoMemory) P = Unit {0}
+
 -- the tree of the text, or that token; or memory ran out
 abbrev pub Tells : Result Program ℕ → Result Program (Stop SyntaxAt) → Type 0
 Tells wanted (Ok p) = wanted ≡ Ok p

@@ -1,7 +1,10 @@
 // Reading a text.
-ghost use Rattle.std.specs.Prelude.{◌≡◌, ◌≤◌, ◌+◌, ◌-◌, length};
+ghost use Rattle.std.specs.Prelude.{◌≡◌, ◌≤◌, ◌+◌, ◌-◌, length, IfOk};
 ghost use Rattle.c_tokens.specs.Pieces.{tokens_of};
-ghost use Rattle.c_loops.specs.Text.{tree_of, Tells};
+ghost use Rattle.c_tree.specs.declared.program.Program.{Program};
+ghost use Rattle.c_grammar.specs.Program.{IsProgram};
+ghost use Rattle.c_grammar.specs.Texts.{IsNoText, IsWrong};
+ghost use Rattle.c_loops.specs.Text.{tree_of, Tells, IfRefused};
 
 use crate::halt::Halt;
 use crate::program::program;
@@ -26,9 +29,9 @@ fn number(text: &[u8], tokens: &Tokens<'_>) -> usize
     Tokens::new(text).left() - tokens.left() + 1
 }
 
-/// The tree of a program's text.
+// The tree of a program's text, or the token at which the reader stands still.
 #[tactic(auto, using(crate::proofs::Whole::read_leaves, crate::proofs::Whole::refused_leaves), unfolding(crate::specs::Text::tree_of))]
-pub fn read_tree(alloc: Global, text: &[u8]) -> Result<Program, Stop<SyntaxAt>>
+fn tree(alloc: Global, text: &[u8]) -> Result<Program, Stop<SyntaxAt>>
     ensures { Tells (tree_of text.now) result }
 {
     let mut tokens = Tokens::new(text);
@@ -48,4 +51,20 @@ pub fn read_tree(alloc: Global, text: &[u8]) -> Result<Program, Stop<SyntaxAt>>
         })),
         Err(Halt::NoMemory) => Err(Stop::NoMemory),
     }
+}
+
+/// The tree of a program's text.
+pub fn read_tree(alloc: Global, text: &[u8]) -> Result<Program, Stop<SyntaxAt>>
+    // The answer of the reader on tokens.
+    ensures exact { Tells (tree_of text.now) result }
+
+    // The tree is the text's by the grammar, and there is no other.
+    ensures sound { IfOk result (λ p. IsProgram (tokens_of text.now) p) }
+    ensures only { IfOk result (λ p. (q : Program) → IsProgram (tokens_of text.now) q → q ≡ p) }
+
+    // What is refused is no text, and none goes on with the token.
+    ensures refused { IfRefused result (λ at. IsNoText (tokens_of text.now)) }
+    ensures token { IfRefused result (λ at. IsWrong (tokens_of text.now) at.token) }
+{
+    tree(alloc, text)
 }

@@ -1,8 +1,12 @@
 -- What `emit` makes of a recipe and a source.
-use Rattle.std.specs.Prelude.{◌≡◌, ◌≢◌, ℕ, List, [], Result, Ok, Err}
+use Rattle.std.specs.Prelude.{◌≡◌, ◌≢◌, ℕ, List, [], Option, Some, None, Result, Ok, Err}
 use Rattle.c_tree.specs.declared.program.Program.{Program}
+use Rattle.c_tokens.specs.Pieces.{tokens_of}
+use Rattle.c_grammar.specs.Program.{IsProgram}
+use Rattle.c_judge.specs.Rules.{KeepsRules}
 use Rattle.c_judge.specs.declared.faults.ProgramFault.{ProgramFault}
 use Rattle.c_loops.specs.Programs.{program_of}
+use Rattle.first_form.specs.Written.{written as written_for}
 use Rattle.c_print.specs.Program.{program_text}
 use Rattle.recipe_read.specs.declared.command.Command.{Command}
 use Rattle.recipe_read.specs.declared.recipe.RecipeFault.{RecipeFault}
@@ -16,16 +20,25 @@ abbrev pub RecipeCause : Result (List Command) RecipeFault → Refusal → Type 
 RecipeCause (Ok commands) refusal = (commands ≢ []) × (refusal ≡ NotYet 1)
 RecipeCause (Err fault) refusal = refusal ≡ Recipe fault
 
--- why a source is refused: it is no program; or it is one of a form that isn't built yet
+-- why a source is refused: it is no program, for a cause that the grammar and the rules show; or it is one of a form that
+-- isn't built yet
+abbrev pub FormCause : Option Program → Refusal → Type 0
+FormCause None refusal = refusal ≡ NotYet 2
+FormCause (Some program) refusal = ⊥
+
 abbrev pub SourceCause : Result Program ProgramFault → Refusal → Type 0
-SourceCause (Ok program) refusal = refusal ≡ NotYet 2
+SourceCause (Ok program) refusal = FormCause (written_for program) refusal
 SourceCause (Err fault) refusal = refusal ≡ ProgramRefused fault
 
--- the text of a program that is written for the source's program
+-- The text of a program that is written for the source's program: the one that the grammar relates to the source, which
+-- keeps all rules.
 pub record IsTextFor (source text : List ℕ) : Type 0 where
   pub origin : Program
   pub is_program : program_of source ≡ Ok origin
+  pub grammar : IsProgram (tokens_of source) origin
+  pub rules : KeepsRules origin
   pub written : Program
+  pub is_written : written_for origin ≡ Some written
   pub is_text : text ≡ program_text written
 
 abbrev pub emitting : Job

@@ -4,6 +4,8 @@
 mod answer;
 mod emit;
 mod outcome;
+#[cfg(test)]
+mod reading;
 mod say;
 #[cfg(test)]
 mod tests;
