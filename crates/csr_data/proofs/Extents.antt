@@ -3,7 +3,7 @@ use Rattle.std.proofs.Common.{◌≡◌, ℕ, zero, suc, ◌<◌, ◌≤◌, ◌
 use Rattle.std.specs.Prelude.{IsTrue, unsigned_abs}
 use Rattle.std.proofs.lemmas.Bool.Decides.{nat_tests}
 use Rattle.c_tree.specs.declared.index.Index.{Index}
-use Rattle.c_meaning.specs.Value.{Answer, ◌>>=◌, Sight, value_of, values_of}
+use Rattle.c_meaning.specs.Value.{Answer, ◌>>=◌, Sight, cell_seen, value_of, values_of}
 use Rattle.c_meaning.specs.Inputs.{three, three_of}
 use Rattle.c_meaning.specs.Names.{Name}
 use Rattle.csr_data.specs.declared.values.Parameter.{Parameter}
@@ -70,3 +70,8 @@ pub read_past : {X : Type 0} (xs : List X) (k : ℕ) → length xs ≤ k → sli
 read_past [] k le = refl
 read_past (y ∷ xs) zero le = absurd (omega arith)
 read_past (y ∷ xs) (suc k) le = read_past xs k (omega arith)
+
+-- where an array has no cells, none is seen
+pub none_seen : (vs : List Parameter) (a : Name) (at : List ℤ) → 0 < length at → None ≡ cell_seen (sight_of vs) a at
+none_seen vs a [] lt = absurd (omega arith)
+none_seen vs a (i ∷ is) lt = refl

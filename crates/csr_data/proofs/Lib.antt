@@ -2,3 +2,10 @@ pub mod Extents
 pub mod Dues
 pub mod Small
 pub mod Cells
+pub mod Induction
+pub mod Divisors
+pub mod Fits
+pub mod Weights
+pub mod Names
+pub mod Ends
+pub mod Accepted

@@ -8,3 +8,4 @@ pub mod Lines
 pub mod Matrices
 pub mod Wanted
 pub mod Reading
+pub mod Divisors

@@ -18,11 +18,11 @@ abbrev pub number_in : List Parameter → Name → ℕ
 number_in [] x = 0
 number_in (v ∷ vs) x = if same_name v.name x then v.value else number_in vs x
 
--- what extents may name: parameters alone
+-- the names for which an extent's evaluation can ask; arrays have no cells there
 abbrev pub scope_of : List Name → Scope
-scope_of xs = record { numbers = has xs; index_arrays = λ a. 0; data_arrays = λ a. 0 }
+scope_of xs = record { numbers = has xs; index_arrays = λ a. 1; data_arrays = λ a. 0 }
 
--- what extents see
+-- what extents see: the parameters, and no cell
 abbrev pub sight_of : List Parameter → Sight
 sight_of vs = record { value = λ x. pos (number_in vs x); extents = λ a. []; index = λ a at. pos 0 }
 

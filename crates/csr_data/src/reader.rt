@@ -1,6 +1,7 @@
 // The reader of a data text.
 ghost use Rattle.std.specs.Prelude.{◌≡◌, ◌≤◌, ◌+◌, ◌^◌, length, None, OnOk, OnErr, IfOk};
-ghost use Rattle.csr_data.specs.Signature.{IsSignature};
+ghost use Rattle.c_judge.specs.Rules.{KeepsRules};
+ghost use Rattle.csr_data.specs.Divisors.{ExtentsHaveDivisors};
 
 use crate::fault::{Halt, ValuesFault};
 use crate::parts::Held;
@@ -21,7 +22,8 @@ pub struct DataReader<'a> {
 
 impl<'a> DataReader<'a> {
     pub fn new(alloc: Global, program: &'a Program) -> Result<DataReader<'a>, NoMemory>
-        requires { IsSignature program.now }
+        requires rules { KeepsRules program.now }
+        requires divisors { ExtentsHaveDivisors program.now }
         ensures { IfOk result (λ r. r.taken ≡ 0) }
     {
         Ok(DataReader {
