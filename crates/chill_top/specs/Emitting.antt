@@ -6,7 +6,7 @@ use Rattle.c_grammar.specs.Program.{IsProgram}
 use Rattle.c_judge.specs.Rules.{KeepsRules}
 use Rattle.c_judge.specs.declared.faults.ProgramFault.{ProgramFault}
 use Rattle.c_loops.specs.Programs.{program_of}
-use Rattle.first_form.specs.Written.{written as written_for}
+use Rattle.first_form.specs.Written as first_form
 use Rattle.c_print.specs.Program.{program_text}
 use Rattle.recipe_read.specs.declared.command.Command.{Command}
 use Rattle.recipe_read.specs.declared.recipe.RecipeFault.{RecipeFault}
@@ -14,6 +14,10 @@ use Rattle.recipe_read.specs.Recipe as recipes
 use Rattle.chill_top.specs.declared.outcome.Refusal.{Refusal}
 use Rattle.chill_top.specs.declared.outcome.Refusal.TheVariants.{NotYet, Recipe, Program as ProgramRefused}
 use Rattle.chill_top.specs.Jobs.{Job}
+
+-- the program that is written for a program, if it is of the first form
+unfoldable pub written_for : Program → Option Program
+written_for p = first_form.written p
 
 -- why a recipe is refused: its first bad line, or too many commands; or there are commands, which aren't built yet
 abbrev pub RecipeCause : Result (List Command) RecipeFault → Refusal → Type 0
