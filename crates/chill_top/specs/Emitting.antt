@@ -7,6 +7,9 @@ use Rattle.c_judge.specs.Rules.{KeepsRules}
 use Rattle.c_judge.specs.declared.faults.ProgramFault.{ProgramFault}
 use Rattle.c_loops.specs.Programs.{program_of}
 use Rattle.first_form.specs.Written as first_form
+use Rattle.c_meaning.specs.Inputs.{Input, IsValid}
+use Rattle.c_meaning.specs.Programs.{IsFine}
+use Rattle.first_laws.specs.Alike.{HasSameSignature, RunsAlike}
 use Rattle.c_print.specs.Program.{program_text}
 use Rattle.recipe_read.specs.declared.command.Command.{Command}
 use Rattle.recipe_read.specs.declared.recipe.RecipeFault.{RecipeFault}
@@ -34,8 +37,9 @@ abbrev pub SourceCause : Result Program ProgramFault → Refusal → Type 0
 SourceCause (Ok program) refusal = FormCause (written_for program) refusal
 SourceCause (Err fault) refusal = refusal ≡ ProgramRefused fault
 
--- The text of a program that is written for the source's program: the one that the grammar relates to the source, which
--- keeps all rules.
+-- The text of the program that is written for the source's program. The source's program is the one that the grammar
+-- relates to its text, and it keeps all rules. The written program has its signature, and on each input its list of placed
+-- assignments and the same arrays at the end; on each valid input it has no fault, so each access is inside its array.
 pub record IsTextFor (source text : List ℕ) : Type 0 where
   pub origin : Program
   pub is_program : program_of source ≡ Ok origin
@@ -43,6 +47,9 @@ pub record IsTextFor (source text : List ℕ) : Type 0 where
   pub rules : KeepsRules origin
   pub written : Program
   pub is_written : written_for origin ≡ Some written
+  pub signature : HasSameSignature origin written
+  pub alike : (i : Input) → RunsAlike origin written i
+  pub fine : (i : Input) → IsValid origin i → IsFine written i
   pub is_text : text ≡ program_text written
 
 abbrev pub emitting : Job

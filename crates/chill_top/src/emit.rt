@@ -64,7 +64,7 @@ fn judge_recipe(alloc: Global, recipe: &[u8]) -> Result<(), Stop<Refusal>>
 }
 
 // The text that is written for a source under a recipe without commands.
-#[tactic(auto, unfolding(crate::specs::Emitting::written_for))]
+#[tactic(auto, using(crate::proofs::Promise::promise), unfolding(crate::specs::Emitting::written_for))]
 fn emit(alloc: Global, _recipe: &[u8], source: &[u8]) -> Result<Text, Stop<Refusal>>
     ensures ok { IfOk result (λ text. emitting.makes _recipe.now source.now text) }
     ensures refused { IfErr result (IfRefused (emitting.denies _recipe.now source.now)) }
