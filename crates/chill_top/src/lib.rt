@@ -4,8 +4,6 @@
 mod answer;
 mod emit;
 mod outcome;
-#[cfg(test)]
-mod reading;
 mod say;
 #[cfg(test)]
 mod tests;
