@@ -5,8 +5,6 @@ mod answer;
 mod emit;
 mod outcome;
 mod say;
-#[cfg(test)]
-mod tests;
 
 pub use answer::chill;
 pub use outcome::{Outcome, Refusal, status};
