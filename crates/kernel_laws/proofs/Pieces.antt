@@ -119,7 +119,7 @@ module _ (params d d' nt : ℕ) (old : List Aff) (counts : length old ≡ d) (ea
       let u_is : record { array = t.array; at = a.0 } ≡ u = cc in
       record {
         array = ap (λ (x : Term). x.array) (sym u_is);
-        at = subst (λ (x : Term). Pairwise (SaysForm olds (params + d) (params + d')) t.at x.at) u_is (pairs_made (SaysForm olds (params + d) (params + d')) (has_vars (params + d + nt)) (rewritten frame old) form-says t.at a.0 h a.1);
+        at = subst (λ (x : Term). Pairwise (SaysForm olds (params + d) (params + d')) t.at x.at) u_is (pairs_made (SaysForm olds (params + d) (params + d')) (has_vars (params + d + nt)) (rewritten frame old) form-says t.at a.0 (and (list_all (has_vars (params + d + nt)) t.at) _ h).0 a.1);
       }
 
   access-says : (a b : Access) → is_access_over (params + d + nt) a ≡ true → access_made (rewritten frame old) a ≡ Ok b → SaysAccess olds a b

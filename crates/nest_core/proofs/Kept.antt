@@ -137,7 +137,8 @@ module _ (n m : ℕ) (f : Aff → Result Aff Excess) (h : (x y : Aff) → has_va
   term_made-kept t u w e =
       let a = after_ok (each_made f t.at) _ u e in
       let is : u ≡ record { array = t.array; at = a.0 } = cc in
-      rw is (each_made-all (has_vars n) (has_vars m) f h t.at a.0 w a.1)
+      let p = and (list_all (has_vars n) t.at) (nat_le 1 (length t.at) && nat_le (length t.at) 3) w in
+      rw (is, each_made-all (has_vars n) (has_vars m) f h t.at a.0 p.0 a.1, each_made-length f t.at a.0 a.1) p.1
 
   pub access_made-kept : (a b : Access) → is_access_over n a ≡ true → access_made f a ≡ Ok b → is_access_over m b ≡ true
   access_made-kept a b w e =

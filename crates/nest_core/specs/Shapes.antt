@@ -25,8 +25,9 @@ vars_of params n = params + length n.levels + length n.terms
 abbrev pub is_row_over : ℕ → ℕ → KernelRow → Bool
 is_row_over n d r = has_vars n r.row.form && (nat_le r.own d && (nat_eq r.own 0 || not r.row.equal))
 
+-- a read of an index array with one to three arguments
 abbrev pub is_term_over : ℕ → Term → Bool
-is_term_over n t = list_all (has_vars n) t.at
+is_term_over n t = list_all (has_vars n) t.at && (nat_le 1 (length t.at) && nat_le (length t.at) 3)
 
 -- a cell with one to three subscripts
 abbrev pub is_access_over : ℕ → Access → Bool

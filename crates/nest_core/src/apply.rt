@@ -29,7 +29,7 @@ fn frame_of(head: &Program, nest: &Nest, piece: &Piece) -> Frame
 
 /// The statement that a piece makes. It goes over its matrix as a whole only where the piece is the only one.
 #[tactic(auto, unfolding(crate::specs::Pieces::nest_of_piece))]
-fn make_nest(
+pub fn make_nest(
     alloc: Global,
     head: &Program,
     alone: bool,
