@@ -69,14 +69,14 @@ of_two-width vars x y a b z l m =
     let middle : length (replicate (y - suc x) (pos 0) ++ b ∷ []) ≡ y - x = length-append (replicate (y - suc x) (pos 0)) (b ∷ []) ∙ omega (arith, length-replicate (y - suc x) (pos 0), l) in
     eq-eqb (length (padded vars x (a ∷ (replicate (y - suc x) (pos 0) ++ b ∷ [])))) vars (length-padded vars x (a ∷ (replicate (y - suc x) (pos 0) ++ b ∷ [])) (omega (arith, middle, l, m)))
 
-true-and : (x y : Bool) → x ≡ true → y ≡ true → x && y ≡ true
+pub true-and : (x y : Bool) → x ≡ true → y ≡ true → x && y ≡ true
 true-and x y a b = rw (a, b) refl
 
 or-true : (b : Bool) → b || true ≡ true
 or-true true = refl
 or-true false = refl
 
-bound-over : (vars d own : ℕ) (f : Aff) → own ≤ d → has_vars vars f ≡ true → is_row_over vars d (record { row = record { equal = false; form = f }; own = own }) ≡ true
+pub bound-over : (vars d own : ℕ) (f : Aff) → own ≤ d → has_vars vars f ≡ true → is_row_over vars d (record { row = record { equal = false; form = f }; own = own }) ≡ true
 bound-over vars d own f l w = rw (w, le-leb own d l) (or-true (nat_eq own 0))
 
 new_rows-over : (c : Change) (vars params d : ℕ) → IsTrue (suits d c) → params + new_depth c d ≤ vars → list_all (is_row_over vars (new_depth c d)) (new_rows vars params c) ≡ true
@@ -99,11 +99,11 @@ new_rows-over (Tile level size outer) vars params d s w =
 new_rows-over (Skew level coefs) vars params d s w = refl
 new_rows-over (Shift level amount) vars params d s w = refl
 
-all-range : {X : Type 0} (p : X → Bool) (f : ℕ → X) (a n b : ℕ) → a + n ≡ b → ((k : ℕ) → k < b → p (f k) ≡ true) → list_all p (map f (range_with_len a n)) ≡ true
+pub all-range : {X : Type 0} (p : X → Bool) (f : ℕ → X) (a n b : ℕ) → a + n ≡ b → ((k : ℕ) → k < b → p (f k) ≡ true) → list_all p (map f (range_with_len a n)) ≡ true
 all-range p f a zero b e h = refl
 all-range p f a (suc n) b e h = rw (h a (omega (arith, e))) (all-range p f (a + 1) n b (omega (arith, e)) h)
 
-got-range : {X : Type 0} (f : ℕ → X) (a n i : ℕ) → i < n → slice_get (map f (range_with_len a n)) i ≡ Some (f (a + i))
+pub got-range : {X : Type 0} (f : ℕ → X) (a n i : ℕ) → i < n → slice_get (map f (range_with_len a n)) i ≡ Some (f (a + i))
 got-range f a zero i l = absurd (omega (arith, l))
 got-range {X} f a (suc n) zero l = let e : a + 0 ≡ a = omega arith in ap (λ (k : ℕ). Some (f k)) (sym e)
 got-range {X} f a (suc n) (suc i) l = let e : a + 1 + i ≡ a + suc i = omega arith in got-range f (a + 1) n i (omega (arith, l)) ∙ ap (λ (k : ℕ). Some (f k)) e
@@ -112,10 +112,10 @@ kept-none : (i : ℕ) (rows : List KernelRow) → kept [] i rows ≡ rows
 kept-none i [] = refl
 kept-none i (r ∷ rows) = ap (λ (rs : List KernelRow). r ∷ rs) (kept-none (suc i) rows)
 
-not_none : (n : ℕ) → 0 < n → nat_lt 0 n ≡ true
+pub not_none : (n : ℕ) → 0 < n → nat_lt 0 n ≡ true
 not_none n h = grind (arith, nat_tests)
 
-or-right : (a b : Bool) → b ≡ true → a || b ≡ true
+pub or-right : (a b : Bool) → b ≡ true → a || b ≡ true
 or-right true b e = refl
 or-right false b e = e
 

@@ -18,7 +18,7 @@ last_held-kept q found (z ∷ zs) h =
     last_held-kept (suc q) (cond (int_eq z (pos 0)) found (suc q)) zs (cond_both (int_eq z (pos 0)) found (suc q) (λ n. 0 < n) (λ _. h) (λ _. omega arith))
 
 -- a number that isn't 0 is found
-last_held-some : (q found : ℕ) (zs : List ℤ) (i : ℕ) → i < length zs → int_eq (get_or zs i (pos 0)) (pos 0) ≡ false → 0 < last_held q found zs
+pub last_held-some : (q found : ℕ) (zs : List ℤ) (i : ℕ) → i < length zs → int_eq (get_or zs i (pos 0)) (pos 0) ≡ false → 0 < last_held q found zs
 last_held-some q found [] i l h = absurd (omega (arith, l))
 last_held-some q found (z ∷ zs) zero l h = last_held-kept (suc q) (cond (int_eq z (pos 0)) found (suc q)) zs (rw h (omega arith))
 last_held-some q found (z ∷ zs) (suc i) l h = last_held-some (suc q) (cond (int_eq z (pos 0)) found (suc q)) zs i (omega (arith, l)) h
@@ -49,7 +49,7 @@ pub record HoldsOne (vars v : ℕ) (f : Aff) : Type 0 where
   pub width : has_vars vars f ≡ true
   pub one : get_or f.coefs v (pos 0) ≡ pos 1
 
-unit-holds : (vars v : ℕ) → v < vars → HoldsOne vars v (unit vars v)
+pub unit-holds : (vars v : ℕ) → v < vars → HoldsOne vars v (unit vars v)
 unfolding unit
 unit-holds vars v l =
     let zero_more : v + 0 ≡ v = omega arith in

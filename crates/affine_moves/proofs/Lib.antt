@@ -6,3 +6,5 @@ pub mod Fitting
 pub mod Making
 pub mod Orders
 pub mod Suiting
+pub mod Counted
+pub mod Standing

@@ -1,3 +1,4 @@
 pub mod Levels
 pub mod Change
 pub mod Moves
+pub mod Placed

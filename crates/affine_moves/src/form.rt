@@ -19,7 +19,12 @@ fn push_zeros(coefs: &mut Vec<i128>, count: usize) -> Result<(), NoMemory>
 
 /// So many zeros, then these numbers, then zeros up to the number of variables.
 #[tactic(auto, unfolding(crate::specs::Change::padded))]
-fn padded(alloc: Global, vars: usize, var: usize, numbers: &[i128]) -> Result<List<i128>, NoMemory>
+pub fn padded(
+    alloc: Global,
+    vars: usize,
+    var: usize,
+    numbers: &[i128],
+) -> Result<List<i128>, NoMemory>
     requires { var + length numbers.now ≤ vars }
     ensures { IfOk result (λ cs. cs ≡ padded vars var numbers.now) }
 {
@@ -32,7 +37,7 @@ fn padded(alloc: Global, vars: usize, var: usize, numbers: &[i128]) -> Result<Li
 
 /// The form that is one variable.
 #[tactic(auto, unfolding(crate::specs::Change::unit))]
-fn unit(alloc: Global, vars: usize, var: usize) -> Result<Aff, NoMemory>
+pub fn unit(alloc: Global, vars: usize, var: usize) -> Result<Aff, NoMemory>
     requires { var < vars }
     ensures { IfOk result (λ f. f ≡ unit vars var) }
 {

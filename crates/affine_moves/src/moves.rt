@@ -62,7 +62,7 @@ fn piece_for(
 }
 
 /// A list of one item.
-fn list_of<T: Drop>(alloc: Global, item: T) -> Result<List<T>, NoMemory>
+pub fn list_of<T: Drop>(alloc: Global, item: T) -> Result<List<T>, NoMemory>
     ensures { IfOk result (λ xs. xs ≡ item ∷ []) }
 {
     let mut list = List::new(alloc);

@@ -1,8 +1,8 @@
 -- What a data expression asks of the scope, at each kind.
-use Rattle.std.proofs.Common.{ℕ, ◌≡◌, refl, sym, ap, ◌∙◌, Bool, true, ◌&&◌}
+use Rattle.std.proofs.Common.{◌≡◌, sym, ap, ◌∙◌, true, ◌&&◌}
 use Rattle.c_tree.specs.declared.index.Cell.{Cell}
 use Rattle.c_tree.specs.declared.data.Expr.{Expr, Expr-F, fold_out-Expr, map-Expr, out-Expr}
-use Rattle.c_tree.specs.declared.data.Expr.TheVariants.{Const, At, Plus, Minus, Times, outs-Const, outs-At, outs-Plus, outs-Minus, outs-Times}
+use Rattle.c_tree.specs.declared.data.Expr.TheVariants.{At, Plus, Minus, Times, outs-At, outs-Plus, outs-Minus, outs-Times}
 use Rattle.c_meaning.specs.Scope.{Scope, Fit, data_cell_fits}
 use Rattle.c_meaning.proofs.Fitting.{and_left, and_right}
 use Rattle.c_walk.specs.Ready.{data_fits, data_layer}

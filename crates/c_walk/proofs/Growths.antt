@@ -1,5 +1,5 @@
 -- Growths.
-use Rattle.std.proofs.Common.{◌≡◌, refl, sym, ap, ◌∙◌, subst, ℕ, ◌+◌, ◌*◌, ◌^◌, ℤ, pos, unsigned_abs, Bool, true, false, ◌&&◌, int_lt, List, [], ◌∷◌, Ok, Err, arith, if◌then◌else◌}
+use Rattle.std.proofs.Common.{◌≡◌, refl, sym, ap, ◌∙◌, ℕ, ◌+◌, ℤ, pos, unsigned_abs, true, false, ◌&&◌, int_lt, [], ◌∷◌, Ok, Err, arith, if◌then◌else◌}
 use Rattle.std.proofs.lemmas.Int.{ints}
 use Rattle.c_tree.specs.declared.index.Index.{Index}
 use Rattle.c_meaning.specs.declared.fault.EvalFault.TheVariants.{Range}

@@ -5,3 +5,5 @@ pub mod Statements
 pub mod Worths
 pub mod DataFits
 pub mod Growths
+pub mod Told
+pub mod Shown

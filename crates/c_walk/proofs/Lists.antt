@@ -1,5 +1,5 @@
 -- Lists that are walked from the front.
-use Rattle.std.proofs.Common.{ℕ, ◌+◌, ◌<◌, ◌≤◌, ◌≡◌, refl, sym, ap, ◌∙◌, Bool, true, false, ◌&&◌, List, [], ◌∷◌, length, drop, get_or, map, arith, add-one, zero, suc, drop-cons}
+use Rattle.std.proofs.Common.{ℕ, ◌+◌, ◌<◌, ◌≤◌, ◌≡◌, refl, sym, ap, ◌∙◌, Bool, true, List, [], ◌∷◌, length, drop, get_or, arith, add-one, zero, suc, drop-cons}
 use Rattle.std.specs.List.{list_all}
 use Rattle.c_meaning.proofs.Fitting.{and_left, and_right}
 

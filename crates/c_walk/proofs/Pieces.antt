@@ -8,7 +8,7 @@ use Rattle.c_meaning.specs.Value.{Answer, value_of}
 use Rattle.c_tree.specs.declared.index.Index.{Index}
 use Rattle.c_meaning.specs.Memory.{Memory, Env, sight_of, bound}
 use Rattle.c_meaning.specs.Listing.{Item, Trouble, above_zero}
-use Rattle.c_meaning.specs.Run.{Deed, Outcome, Run, nothing, after, ◌⨾◌, given, given_by, turn, turns, Part, part, widths, sequence, for_run}
+use Rattle.c_meaning.specs.Run.{Deed, Outcome, Run, nothing, after, ◌⨾◌, given, given_by, turn, turns, part, widths, sequence, for_run}
 use Rattle.c_walk.specs.declared.halt.Halt.{Halt}
 use Rattle.c_walk.specs.declared.halt.Halt.TheVariants.{Fault, NoMemory, WriteFault}
 use Rattle.c_walk.specs.State.{State, memory_in, with_memory, entered, left}

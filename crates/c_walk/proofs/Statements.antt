@@ -1,5 +1,5 @@
 -- What a statement's run is, at each kind.
-use Rattle.std.proofs.Common.{◌≡◌, refl, sym, ap, ◌∙◌, subst, ℕ, ◌+◌, pos, Bool, true, false, List, [], ◌∷◌, ◌++◌, length, map, Ok, Err, if◌then◌else◌, length-append}
+use Rattle.std.proofs.Common.{◌≡◌, sym, ap, ◌∙◌, subst, ℕ, ◌+◌, pos, Bool, true, false, List, [], ◌∷◌, length, map, Ok, Err, if◌then◌else◌, length-append}
 use Rattle.c_tree.specs.declared.index.Cell.{Cell}
 use Rattle.c_tree.specs.declared.index.Index.{Index}
 use Rattle.c_tree.specs.declared.program.Kind.{Kind}

@@ -1,5 +1,5 @@
 -- Numbers modulo 2^64, gathered from the right.
-use Rattle.std.proofs.Common.{ℕ, ◌≡◌, refl, sym, ap, ◌∙◌, ◌+◌, ◌-◌, ◌*◌, ◌%◌, ◌^◌, ◌<◌, Option, Some, None, Ok, Err, arith}
+use Rattle.std.proofs.Common.{ℕ, ◌≡◌, refl, sym, ap, ◌∙◌, ◌+◌, ◌-◌, ◌*◌, ◌%◌, ◌^◌, ◌<◌, Some, None, Ok, Err, arith}
 use Rattle.std.proofs.Math.Nat.{mul_comm, mul_assoc, mul-add}
 use Rattle.std.proofs.lemmas.Nat.{mul-mod_first}
 use Rattle.c_tree.specs.declared.index.Cell.{Cell}
@@ -8,7 +8,7 @@ use Rattle.c_tree.specs.declared.data.Expr.TheVariants.{Const, At, Plus, Minus, 
 use Rattle.c_meaning.specs.declared.fault.EvalFault.{EvalFault}
 use Rattle.c_meaning.specs.Memory.{Spot, Cells}
 use Rattle.c_meaning.specs.Value.{Answer, ◌>>=◌}
-use Rattle.c_meaning.specs.Ground.{Ground, load, sum, difference, product, worth, wrapped}
+use Rattle.c_meaning.specs.Ground.{Ground, load, sum, difference, product, worth}
 use Rattle.c_meaning.specs.Listing.{ground, on_grounds, spot}
 use Rattle.c_meaning.proofs.Parts.{ground-Const, ground-At, ground-Plus, ground-Minus, ground-Times}
 use Rattle.c_walk.specs.State.{State}
@@ -64,7 +64,7 @@ at_of : (a : Answer Spot) (k : Cells) → ((a >>= (λ x. Ok (load x))) >>= (λ g
 at_of (Ok x) k = refl
 at_of (Err e) k = refl
 
-worth-At : (e : Cell) (s : State) → worth_of (At e) s ≡ data_value e s
+pub worth-At : (e : Cell) (s : State) → worth_of (At e) s ≡ data_value e s
 worth-At e s = ap (λ a. a >>= (λ g. Ok (worth g s.cells))) (ground-At e (scene s)) ∙ at_of (spot e (scene s)) s.cells
 
 two_of : (f : Ground → Ground → Ground) (h : ℕ → ℕ → ℕ) (k : Cells) → ((x y : Ground) → worth (f x y) k ≡ h (worth x k) (worth y k)) → (m n : Answer Ground)
@@ -73,13 +73,13 @@ two_of f h k e (Ok x) (Ok y) = ap Ok (e x y)
 two_of f h k e (Ok x) (Err q) = refl
 two_of f h k e (Err q) n = refl
 
-worth-Plus : (a b : Expr) (s : State) → worth_of (Plus a b) s ≡ on_numbers plus_of (worth_of a s) (worth_of b s)
+pub worth-Plus : (a b : Expr) (s : State) → worth_of (Plus a b) s ≡ on_numbers plus_of (worth_of a s) (worth_of b s)
 worth-Plus a b s = ap (λ a. a >>= (λ g. Ok (worth g s.cells))) (ground-Plus a b (scene s)) ∙ two_of sum plus_of s.cells (λ x y. refl) (ground a (scene s)) (ground b (scene s))
 
-worth-Minus : (a b : Expr) (s : State) → worth_of (Minus a b) s ≡ on_numbers minus_of (worth_of a s) (worth_of b s)
+pub worth-Minus : (a b : Expr) (s : State) → worth_of (Minus a b) s ≡ on_numbers minus_of (worth_of a s) (worth_of b s)
 worth-Minus a b s = ap (λ a. a >>= (λ g. Ok (worth g s.cells))) (ground-Minus a b (scene s)) ∙ two_of difference minus_of s.cells (λ x y. refl) (ground a (scene s)) (ground b (scene s))
 
-worth-Times : (a b : Expr) (s : State) → worth_of (Times a b) s ≡ on_numbers times_of (worth_of a s) (worth_of b s)
+pub worth-Times : (a b : Expr) (s : State) → worth_of (Times a b) s ≡ on_numbers times_of (worth_of a s) (worth_of b s)
 worth-Times a b s = ap (λ a. a >>= (λ g. Ok (worth g s.cells))) (ground-Times a b (scene s)) ∙ two_of product times_of s.cells (λ x y. refl) (ground a (scene s)) (ground b (scene s))
 
 abbrev pub Gathers : Expr → Expr → Answer Tail → State → Type 0

@@ -1,9 +1,9 @@
 -- The worth of data expressions, as it is gathered from the right.
-use Rattle.std.specs.Prelude.{◌≡◌, ℕ, ◌+◌, ◌-◌, ◌*◌, ◌^◌, Option, Some, None, Ok, Err}
+use Rattle.std.specs.Prelude.{ℕ, ◌+◌, ◌-◌, ◌*◌, ◌^◌, Option, Some, None, Ok}
 use Rattle.c_tree.specs.declared.index.Cell.{Cell}
 use Rattle.c_tree.specs.declared.data.Expr.{Expr}
 use Rattle.c_meaning.specs.Value.{Answer, ◌>>=◌}
-use Rattle.c_meaning.specs.Ground.{Ground, worth, wrapped}
+use Rattle.c_meaning.specs.Ground.{worth, wrapped}
 use Rattle.c_meaning.specs.Listing.{Scene, spot, ground, scene_of}
 use Rattle.c_walk.specs.declared.data.Operator.{Operator}
 use Rattle.c_walk.specs.declared.data.Operator.TheVariants.{Plus, Minus, Times}

@@ -1,5 +1,6 @@
 -- What a piece of a run did.
-use Rattle.std.specs.Prelude.{◌≡◌, ℕ, Bool, true, false, ◌||◌, List, [], ◌∷◌, Option, Some, None, Result, Ok, Err}
+use Rattle.std.specs.Prelude.{◌≡◌, ◌≤◌, Bool, true, false, ◌||◌, List, [], ◌∷◌, Some, None, Result, Ok, Err}
+use Rattle.chill_base.specs.Outside.{SinkState, Rose}
 use Rattle.c_tree.specs.declared.index.Cell.{Cell}
 use Rattle.c_tree.specs.declared.index.Index.{Index}
 use Rattle.c_tree.specs.declared.data.Expr.{Expr}
@@ -7,23 +8,25 @@ use Rattle.c_tree.specs.declared.program.Kind.{Kind}
 use Rattle.c_tree.specs.declared.statement.How.{How}
 use Rattle.c_meaning.specs.Names.{Name, Place}
 use Rattle.c_meaning.specs.Memory.{Memory, Env}
-use Rattle.c_meaning.specs.Listing.{Item, Trouble, assigned, scene_of}
+use Rattle.c_meaning.specs.Listing.{Item, assigned, scene_of}
 use Rattle.c_meaning.specs.Run.{Deed, assign, put, declare, grow, Outcome, Run, given, performs, put_step, declare_step, grow_step}
 use Rattle.c_walk.specs.declared.halt.Halt.{Halt}
 use Rattle.c_walk.specs.declared.halt.Halt.TheVariants.{Fault, NoMemory, WriteFault}
 use Rattle.c_walk.specs.State.{State, memory_in, with_memory}
 
+-- a declaration and a growth take memory
 abbrev pub is_growth : Deed → Bool
 is_growth (assign t) = false
 is_growth (put a at v) = false
-is_growth (declare a kind es) = false
+is_growth (declare a kind es) = true
 is_growth (grow a n) = true
 
 abbrev pub has_growth : List (Item Deed) → Bool
 has_growth [] = false
 has_growth (i ∷ is) = is_growth i.step || has_growth is
 
--- An answer beside the outcome that the definition gives. Memory runs out only where there is a growth; what the arrays
+-- An answer beside the outcome that the definition gives. Memory runs out only where there is a
+-- declaration or a growth; what the arrays
 -- hold then, and where the sink fails, is left open.
 abbrev pub Ends : {A : Type 0} → Result A Halt → Outcome → Memory → Type 0
 Ends (Ok a) o m = (o.trouble ≡ None) × (m ≡ o.last)
@@ -35,6 +38,15 @@ Ends (Err WriteFault) o m = Unit
 pub record Does {A : Type 0} (F : Run) (s s' : State) (r : Result A Halt) : Type 0 where
   pub frame : s' ≡ with_memory (memory_in s') s
   pub ends : Ends r (F (memory_in s)) (memory_in s')
+
+-- Of one who is told the assignments: no count falls, and a line isn't taken only where the count of faults rose.
+pub record Told {A : Type 0} (before after : SinkState) (r : Result A Halt) : Type 0 where
+  pub later : before.faults ≤ after.faults
+  pub cause : r ≡ Err WriteFault → Rose before.faults after.faults
+
+-- what doesn't speak of a listener has no write fault
+abbrev pub IsQuiet : {A : Type 0} → Result A Halt → Type 0
+IsQuiet r = r ≡ Err WriteFault → ⊥
 
 -- the statements without parts, at their place
 abbrev pub assignment : Cell → How → Expr → Env → Place → Run

@@ -1,5 +1,5 @@
 -- Which statements can be run.
-use Rattle.std.specs.Prelude.{ℕ, zero, suc, ◌+◌, ◌^◌, Bool, true, false, ◌&&◌, ◌||◌, List, [], ◌∷◌, map, nat_le, nat_lt}
+use Rattle.std.specs.Prelude.{ℕ, suc, ◌^◌, Bool, true, false, ◌&&◌, ◌||◌, List, map, nat_le, nat_lt}
 use Rattle.std.specs.List.{list_all}
 use Rattle.c_tree.specs.declared.data.Expr.{Expr, fold-Expr}
 use Rattle.c_tree.specs.declared.data.Expr.TheOpen.{Expr-F, Const, At, Plus, Minus, Times}

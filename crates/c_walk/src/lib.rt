@@ -3,10 +3,12 @@
 
 mod data;
 mod halt;
+mod listener;
 mod memory;
 mod steps;
 mod walk;
 
 pub use halt::Halt;
+pub use listener::{Listener, Silent};
 pub use memory::Memory;
-pub use walk::run_statements;
+pub use walk::{positions_after, run_statement, run_statements};

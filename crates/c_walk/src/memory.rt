@@ -7,8 +7,7 @@ ghost use Rattle.c_walk.specs.State.{Rest, state_of, memory_in, with_memory, wit
 ghost use Rattle.c_walk.specs.Ready.{most_loops, has_array};
 
 use c_meaning::View;
-use c_tree::{Cell, Expr, How};
-use chill_base::{Failed, Name, NoMemory, Place};
+use chill_base::{Name, NoMemory};
 
 /// The arrays and the numbers of a run.
 pub trait Memory: View {
@@ -53,14 +52,4 @@ pub trait Memory: View {
         requires within { IsTrue (is_within (grown (pos count) ((Self.sight self.old).extents array.now))) }
         ensures grown { let before = state_of (Self.scope self.old) (Self.sight self.old) (rest self.old) in OnOk result (state_of (Self.scope self.new) (Self.sight self.new) (rest self.new) ≡ with_memory (with_extents array.now (grown (pos count) (before.sight.extents array.now)) (memory_in before)) before) }
         ensures kept { OnErr result (state_of (Self.scope self.new) (Self.sight self.new) (rest self.new) ≡ state_of (Self.scope self.old) (Self.sight self.old) (rest self.old)) };
-
-    /// Is told each assignment right before it is made.
-    fn announce(
-        &mut self,
-        place: &Place,
-        target: &Cell,
-        how: How,
-        value: &Expr,
-    ) -> Result<(), Failed>
-        ensures { state_of (Self.scope self.new) (Self.sight self.new) (rest self.new) ≡ state_of (Self.scope self.old) (Self.sight self.old) (rest self.old) };
 }

@@ -5,10 +5,10 @@ ghost use Rattle.c_meaning.specs.Ground.{updated};
 ghost use Rattle.c_meaning.specs.Run.{is_within, grown};
 ghost use Rattle.c_walk.specs.State.{state_of};
 ghost use Rattle.c_walk.specs.Ready.{data_fits, has_array};
-ghost use Rattle.c_walk.specs.Does.{Does, assignment, index_assignment, growth};
+ghost use Rattle.c_walk.specs.Does.{Does, Told, IsQuiet, assignment, index_assignment, growth};
 
 use crate::data::eval_data;
-use crate::{Halt, Memory};
+use crate::{Halt, Listener, Memory};
 use c_meaning::{EvalFault, eval_index, eval_subscripts};
 use c_tree::{Cell, Expr, How, Index};
 use chill_base::{Name, NoMemory, Place};
@@ -24,15 +24,17 @@ fn updated(how: How, old: u64, value: u64) -> u64
 }
 
 /// An assignment to a data cell.
-pub(crate) fn assign<M: Memory>(
+pub(crate) fn assign<M: Memory, L: Listener>(
     memory: &mut M,
+    listener: &mut L,
     place: &Place,
     target: &Cell,
     how: How,
     value: &Expr,
 ) -> Result<(), Halt>
     requires { IsTrue (data_cell_fits target.now (M.scope memory.old) && data_fits value.now (M.scope memory.old)) }
-    ensures { Does (assignment target.now how value.now (M.sight memory.old).value place.now) (state_of (M.scope memory.old) (M.sight memory.old) (M.rest memory.old)) (state_of (M.scope memory.new) (M.sight memory.new) (M.rest memory.new)) result }
+    ensures does { Does (assignment target.now how value.now (M.sight memory.old).value place.now) (state_of (M.scope memory.old) (M.sight memory.old) (M.rest memory.old)) (state_of (M.scope memory.new) (M.sight memory.new) (M.rest memory.new)) result }
+    ensures told { Told (L.heard listener.old) (L.heard listener.new) result }
 {
     let worth = match eval_data(value, memory) {
         Ok(worth) => worth,
@@ -49,7 +51,7 @@ pub(crate) fn assign<M: Memory>(
         }),
     };
     match memory.data_cell(&target.array, at) {
-        Some(old) => match memory.announce(place, target, how, value) {
+        Some(old) => match listener.hear(memory, place, target, how, value) {
             Ok(()) => {
                 memory.set_data(&target.array, at, updated(how, old, worth));
                 Ok(())
@@ -73,7 +75,8 @@ pub(crate) fn put<M: Memory>(
     value: &Index,
 ) -> Result<(), Halt>
     requires { IsTrue (cell_fits target.now (M.scope memory.old) && fits value.now (M.scope memory.old)) }
-    ensures { Does (index_assignment target.now value.now (M.sight memory.old).value place.now) (state_of (M.scope memory.old) (M.sight memory.old) (M.rest memory.old)) (state_of (M.scope memory.new) (M.sight memory.new) (M.rest memory.new)) result }
+    ensures does { Does (index_assignment target.now value.now (M.sight memory.old).value place.now) (state_of (M.scope memory.old) (M.sight memory.old) (M.rest memory.old)) (state_of (M.scope memory.new) (M.sight memory.new) (M.rest memory.new)) result }
+    ensures quiet { IsQuiet result }
 {
     let number = match eval_index(value, memory) {
         Ok(number) => number,
@@ -128,7 +131,8 @@ pub(crate) fn grow<M: Memory>(
     by: &Index,
 ) -> Result<(), Halt>
     requires { IsTrue (has_array name.now (M.scope memory.old) && fits by.now (M.scope memory.old)) }
-    ensures { Does (growth name.now by.now (M.sight memory.old).value place.now) (state_of (M.scope memory.old) (M.sight memory.old) (M.rest memory.old)) (state_of (M.scope memory.new) (M.sight memory.new) (M.rest memory.new)) result }
+    ensures does { Does (growth name.now by.now (M.sight memory.old).value place.now) (state_of (M.scope memory.old) (M.sight memory.old) (M.rest memory.old)) (state_of (M.scope memory.new) (M.sight memory.new) (M.rest memory.new)) result }
+    ensures quiet { IsQuiet result }
 {
     let count = match eval_index(by, memory) {
         Ok(count) => count,

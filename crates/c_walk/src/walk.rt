@@ -9,10 +9,10 @@ ghost use Rattle.c_meaning.specs.Listing.{above_zero};
 ghost use Rattle.c_meaning.specs.Run.{part, widths, sequence, turns, for_run};
 ghost use Rattle.c_walk.specs.State.{state_of, with_number};
 ghost use Rattle.c_walk.specs.Ready.{is_ready, are_ready, most_loops, most_children};
-ghost use Rattle.c_walk.specs.Does.{Does};
+ghost use Rattle.c_walk.specs.Does.{Does, Told};
 
 use crate::steps::{assign, grow, put};
-use crate::{Halt, Memory};
+use crate::{Halt, Listener, Memory};
 use c_meaning::{EvalFault, View, eval_index, eval_test};
 use c_tree::{Index, Stmt, Test};
 use chill_base::{List, Name, Place};
@@ -43,9 +43,9 @@ fn eval_tests<V: View>(tests: &List<Test>, view: &V) -> Result<bool, EvalFault>
     Ok(true)
 }
 
-// The child position behind the statement, which stands at that one.
+/// The child position behind the statement, which stands at that one.
 #[cycle(count)]
-fn positions_after(statement: &Stmt, before: u64) -> u64
+pub fn positions_after(statement: &Stmt, before: u64) -> u64
     requires { before + (part statement.now).width ≤ 2 ^ 33 }
     ensures { result ≡ before + (part statement.now).width }
 {
@@ -73,8 +73,9 @@ fn positions_behind(list: &List<Stmt>, before: u64) -> u64
 
 /// The statements of a list at the place, from that child position on.
 #[cycle(walk)]
-pub fn run_statements<M: Memory>(
+pub fn run_statements<M: Memory, L: Listener>(
     memory: &mut M,
+    listener: &mut L,
     list: &List<Stmt>,
     at: &Place,
     first: u64,
@@ -83,11 +84,12 @@ pub fn run_statements<M: Memory>(
     requires loops { length (M.rest memory.old).outer ≤ most_loops }
     requires place { length at.now ≡ 2 * length (M.rest memory.old).outer }
     requires few { first + widths (map part list.now) ≤ 2 ^ 33 }
-    ensures { Does (sequence (map part list.now) (M.sight memory.old).value at.now first) (state_of (M.scope memory.old) (M.sight memory.old) (M.rest memory.old)) (state_of (M.scope memory.new) (M.sight memory.new) (M.rest memory.new)) result }
+    ensures does { Does (sequence (map part list.now) (M.sight memory.old).value at.now first) (state_of (M.scope memory.old) (M.sight memory.old) (M.rest memory.old)) (state_of (M.scope memory.new) (M.sight memory.new) (M.rest memory.new)) result }
+    ensures told { Told (L.heard listener.old) (L.heard listener.new) result }
 {
     let mut position = first;
     for statement in list.as_slice() {
-        if let Err(halt) = run_statement(memory, statement, at, position) {
+        if let Err(halt) = run_statement(memory, listener, statement, at, position) {
             return Err(halt);
         }
         position = positions_after(statement, position);
@@ -95,9 +97,11 @@ pub fn run_statements<M: Memory>(
     Ok(())
 }
 
+/// A statement of a list at the place, at that child position.
 #[cycle(walk)]
-fn run_statement<M: Memory>(
+pub fn run_statement<M: Memory, L: Listener>(
     memory: &mut M,
+    listener: &mut L,
     statement: &Stmt,
     at: &Place,
     position: u64,
@@ -106,7 +110,8 @@ fn run_statement<M: Memory>(
     requires loops { length (M.rest memory.old).outer ≤ most_loops }
     requires place { length at.now ≡ 2 * length (M.rest memory.old).outer }
     requires few { position + (part statement.now).width ≤ 2 ^ 33 }
-    ensures { Does ((part statement.now).run (M.sight memory.old).value at.now position) (state_of (M.scope memory.old) (M.sight memory.old) (M.rest memory.old)) (state_of (M.scope memory.new) (M.sight memory.new) (M.rest memory.new)) result }
+    ensures does { Does ((part statement.now).run (M.sight memory.old).value at.now position) (state_of (M.scope memory.old) (M.sight memory.old) (M.rest memory.old)) (state_of (M.scope memory.new) (M.sight memory.new) (M.rest memory.new)) result }
+    ensures told { Told (L.heard listener.old) (L.heard listener.new) result }
 {
     let here = child_of(at, position);
     match statement {
@@ -115,13 +120,13 @@ fn run_statement<M: Memory>(
             low,
             high,
             body,
-        } => run_loop(memory, body, var, low, high, &here),
+        } => run_loop(memory, listener, body, var, low, high, &here),
         Stmt::If { tests, body } => match eval_tests(tests, memory) {
-            Ok(true) => run_statements(memory, body, at, position),
+            Ok(true) => run_statements(memory, listener, body, at, position),
             Ok(false) => Ok(()),
             Err(fault) => Err(Halt::Fault { place: here, fault }),
         },
-        Stmt::Assign { target, how, value } => assign(memory, &here, target, *how, value),
+        Stmt::Assign { target, how, value } => assign(memory, listener, &here, target, *how, value),
         Stmt::Put { target, value } => put(memory, &here, target, value),
         Stmt::Declare {
             name: _,
@@ -134,8 +139,9 @@ fn run_statement<M: Memory>(
 
 // A loop at its place: its two bounds once, and then its turns.
 #[cycle(walk)]
-fn run_loop<M: Memory>(
+fn run_loop<M: Memory, L: Listener>(
     memory: &mut M,
+    listener: &mut L,
     body: &List<Stmt>,
     var: &Name,
     low: &Index,
@@ -148,7 +154,8 @@ fn run_loop<M: Memory>(
     requires loops { length (M.rest memory.old).outer < most_loops }
     requires place { length at.now ≡ 2 * length (M.rest memory.old).outer + 1 }
     requires few { widths (map part body.now) ≤ most_children }
-    ensures { Does (for_run var.now low.now high.now (map part body.now) (M.sight memory.old).value at.now) (state_of (M.scope memory.old) (M.sight memory.old) (M.rest memory.old)) (state_of (M.scope memory.new) (M.sight memory.new) (M.rest memory.new)) result }
+    ensures does { Does (for_run var.now low.now high.now (map part body.now) (M.sight memory.old).value at.now) (state_of (M.scope memory.old) (M.sight memory.old) (M.rest memory.old)) (state_of (M.scope memory.new) (M.sight memory.new) (M.rest memory.new)) result }
+    ensures told { Told (L.heard listener.old) (L.heard listener.new) result }
 {
     let from = match eval_index(low, memory) {
         Ok(value) => value,
@@ -158,12 +165,13 @@ fn run_loop<M: Memory>(
         Ok(value) => value,
         Err(fault) => return Err(Halt::Fault { place: *at, fault }),
     };
-    run_turns(memory, body, var, from, to, at)
+    run_turns(memory, listener, body, var, from, to, at)
 }
 
 #[cycle(walk)]
-fn run_turns<M: Memory>(
+fn run_turns<M: Memory, L: Listener>(
     memory: &mut M,
+    listener: &mut L,
     body: &List<Stmt>,
     var: &Name,
     from: i64,
@@ -174,10 +182,11 @@ fn run_turns<M: Memory>(
     requires loops { length (M.rest memory.old).outer < most_loops }
     requires place { length at.now ≡ 2 * length (M.rest memory.old).outer + 1 }
     requires few { widths (map part body.now) ≤ most_children }
-    ensures { Does (turns (above_zero (to -ℤ from)) from (λ v. sequence (map part body.now) (bound var.now v (M.sight memory.old).value) (at.now ++ v ∷ []) 0)) (state_of (M.scope memory.old) (M.sight memory.old) (M.rest memory.old)) (state_of (M.scope memory.new) (M.sight memory.new) (M.rest memory.new)) result }
+    ensures does { Does (turns (above_zero (to -ℤ from)) from (λ v. sequence (map part body.now) (bound var.now v (M.sight memory.old).value) (at.now ++ v ∷ []) 0)) (state_of (M.scope memory.old) (M.sight memory.old) (M.rest memory.old)) (state_of (M.scope memory.new) (M.sight memory.new) (M.rest memory.new)) result }
+    ensures told { Told (L.heard listener.old) (L.heard listener.new) result }
 {
     for value in from..to {
-        if let Err(halt) = run_turn(memory, body, var, value, at) {
+        if let Err(halt) = run_turn(memory, listener, body, var, value, at) {
             return Err(halt);
         }
     }
@@ -185,8 +194,9 @@ fn run_turns<M: Memory>(
 }
 
 #[cycle(walk)]
-fn run_turn<M: Memory>(
+fn run_turn<M: Memory, L: Listener>(
     memory: &mut M,
+    listener: &mut L,
     body: &List<Stmt>,
     var: &Name,
     value: i64,
@@ -196,12 +206,13 @@ fn run_turn<M: Memory>(
     requires loops { length (M.rest memory.old).outer < most_loops }
     requires place { length at.now ≡ 2 * length (M.rest memory.old).outer + 1 }
     requires few { widths (map part body.now) ≤ most_children }
-    ensures { Does (sequence (map part body.now) (bound var.now value (M.sight memory.old).value) (at.now ++ value ∷ []) 0) (state_of (M.scope memory.old) (M.sight memory.old) (M.rest memory.old)) (state_of (M.scope memory.new) (M.sight memory.new) (M.rest memory.new)) result }
+    ensures does { Does (sequence (map part body.now) (bound var.now value (M.sight memory.old).value) (at.now ++ value ∷ []) 0) (state_of (M.scope memory.old) (M.sight memory.old) (M.rest memory.old)) (state_of (M.scope memory.new) (M.sight memory.new) (M.rest memory.new)) result }
+    ensures told { Told (L.heard listener.old) (L.heard listener.new) result }
 {
     memory.enter(*var, value);
     let mut here = *at;
     here.push(value);
-    let ended = run_statements(memory, body, &here, 0);
+    let ended = run_statements(memory, listener, body, &here, 0);
     memory.leave();
     ended
 }

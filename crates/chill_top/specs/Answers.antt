@@ -3,10 +3,13 @@ use Rattle.std.specs.Prelude.{◌≡◌, ◌≤◌, ℕ, List, [], Option, None,
 use Rattle.chill_base.specs.Outside.{FilesState, SinkState, Rose, BothTold, Wrote}
 use Rattle.chill_base.specs.declared.whole.Unread.{Unread}
 use Rattle.chill_base.specs.declared.whole.Unread.TheVariants.{Fault, Long, NoMemory as Short}
-use Rattle.chill_top.specs.declared.outcome.Outcome.{Outcome}
-use Rattle.chill_top.specs.declared.outcome.Outcome.TheVariants.{Done, Refused, Usage, ReadFault, WriteFault, NoMemory}
-use Rattle.chill_top.specs.declared.outcome.Refusal.TheVariants.{FileLong}
-use Rattle.chill_top.specs.Commands.{Command, emit}
+use Rattle.outcomes.specs.declared.outcome.Outcome.{Outcome}
+use Rattle.outcomes.specs.declared.outcome.Outcome.TheVariants.{Done, Refused, Usage, ReadFault, WriteFault, NoMemory}
+use Rattle.outcomes.specs.declared.outcome.Refusal.TheVariants.{FileLong, NotYet}
+use Rattle.command_words.specs.Commands.{Command, emit, run, trace, work}
+use Rattle.chill_base.specs.declared.faults.Stop.{Stop}
+use Rattle.chill_base.specs.declared.faults.Stop.TheVariants.{Refused as StopRefused, NoMemory as StopNoMemory}
+use Rattle.outcomes.specs.declared.outcome.Refusal.{Refusal}
 use Rattle.chill_top.specs.Jobs.{Job, Cause}
 use Rattle.chill_top.specs.Emitting.{emitting}
 
@@ -34,14 +37,32 @@ pub record Does (job : Job) (one two : List ℕ) (files files' : FilesState) (ou
   pub cause : BothTold files.told files'.told (λ before after. Cause job one two before after out out' result)
   pub counts : Counts files files' out out' result
 
--- the answer of the words: other words than those of a command are `Usage`, and the words of a command never are
+-- words of no command are `Usage`, or find no memory
+abbrev pub IsNoCommand : Outcome → Type 0
+IsNoCommand Usage = Unit {0}
+IsNoCommand NoMemory = Unit {0}
+IsNoCommand _ = ⊥
+
+-- a command that isn't built yet is refused, or finds no memory
+abbrev pub IsNotYet : Outcome → Type 0
+IsNotYet NoMemory = Unit {0}
+IsNotYet result = result ≡ Refused (NotYet 1)
+
+-- the answer of the words
 abbrev pub Answers : Option Command → (files files' : FilesState) (out out' : SinkState) → Outcome → Type 0
-Answers None files files' out out' result = result ≡ Usage
+Answers None files files' out out' result = IsNoCommand result
 Answers (Some (emit recipe source)) files files' out out' result =
     BothTold files.told files'.told (λ before after. Cause emitting recipe source before after out out' result)
+Answers (Some (run program values)) files files' out out' result = IsNotYet result
+Answers (Some (trace program values)) files files' out out' result = IsNotYet result
+Answers (Some (work seed size)) files files' out out' result = IsNotYet result
 
 -- the answer where a file wasn't read whole
 abbrev pub outcome_of : ℕ → Unread → Outcome
 outcome_of file Fault = ReadFault file
 outcome_of file Long = Refused (FileLong file)
 outcome_of file Short = NoMemory
+
+abbrev pub outcome_of_stop : Stop Refusal → Outcome
+outcome_of_stop (StopRefused refusal) = Refused refusal
+outcome_of_stop StopNoMemory = NoMemory

@@ -2,10 +2,10 @@
 use Rattle.std.specs.Prelude.{◌≡◌, ◌≢◌, ◌≤◌, ◌<◌, ◌⊎◌, ℕ, List, [], length, Some, None}
 use Rattle.chill_base.specs.Outside.{FilesState, SinkState, Shelf, Rose, BothTold, Wrote, IsProperFront}
 use Rattle.chill_base.specs.declared.whole.TheConstants.{FILE_LIMIT}
-use Rattle.chill_top.specs.declared.outcome.Outcome.{Outcome}
-use Rattle.chill_top.specs.declared.outcome.Outcome.TheVariants.{Done, Refused, Usage, ReadFault, WriteFault, NoMemory}
-use Rattle.chill_top.specs.declared.outcome.Refusal.{Refusal}
-use Rattle.chill_top.specs.declared.outcome.Refusal.TheVariants.{FileLong}
+use Rattle.outcomes.specs.declared.outcome.Outcome.{Outcome}
+use Rattle.outcomes.specs.declared.outcome.Outcome.TheVariants.{Done, Refused, Usage, ReadFault, WriteFault, NoMemory}
+use Rattle.outcomes.specs.declared.outcome.Refusal.{Refusal}
+use Rattle.outcomes.specs.declared.outcome.Refusal.TheVariants.{FileLong}
 
 -- what a command makes of the bytes of its two files
 pub record Job : Type 1 where
@@ -66,10 +66,15 @@ pub record IsDenied (job : Job) (shelf : Shelf) (one two : List ℕ) (refusal : 
   pub has_second : Has shelf two second
   pub denies : job.denies first second refusal
 
--- why a refusal was answered. A file that is too long is refused as such, whatever it holds
+-- a file is refused as too long, the second one behind a first that passes
+abbrev pub IsTooLong : Job → (before : Shelf) → (one two : List ℕ) → Refusal → Type 0
+IsTooLong job before one two (FileLong file) = ((file ≡ 1) × IsLong before one) ⊎ ((file ≡ 2) × Passed job before one × IsLong before two)
+IsTooLong job before one two refusal = ⊥
+
+-- why a refusal was answered
 abbrev pub RefusalCause : Job → (before : Shelf) → (one two : List ℕ) → Refusal → Type 0
-RefusalCause job before one two (FileLong file) = ((file ≡ 1) × IsLong before one) ⊎ ((file ≡ 2) × Passed job before one × IsLong before two)
-RefusalCause job before one two refusal = IsRefused job before one refusal ⊎ IsDenied job before one two refusal
+RefusalCause job before one two refusal =
+    IsTooLong job before one two refusal ⊎ (IsRefused job before one refusal ⊎ IsDenied job before one two refusal)
 
 -- why a command of two files gave an answer, over files that tell their bytes; what it wrote
 abbrev pub Cause : Job → (one two : List ℕ) → (before after : Shelf) → (out out' : SinkState) → Outcome → Type 0

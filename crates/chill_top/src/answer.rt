@@ -1,14 +1,15 @@
 // The top call.
-ghost use Rattle.std.specs.Prelude.{◌≡◌, None};
+ghost use Rattle.std.specs.Prelude.{◌≡◌, false, None, map, string_bytes};
 ghost use Rattle.chill_base.specs.Outside.{TookFront};
-ghost use Rattle.chill_top.specs.Commands.{command_of, texts, is_word};
-ghost use Rattle.chill_top.specs.Lines.{line_of};
+ghost use Rattle.command_words.specs.Words.{are_words};
+ghost use Rattle.command_words.specs.Commands.{command_of};
+ghost use Rattle.outcomes.specs.Lines.{line_of};
 ghost use Rattle.chill_top.specs.Answers.{Answers, Counts};
 
-use crate::Outcome;
-use crate::emit::run_emit;
-use crate::say::say;
+use crate::emitting::run_emit;
 use chill_base::{Files, Sink};
+use command_words::{Request, WordsFault, request_of};
+use outcomes::{Outcome, Refusal, say};
 use std::alloc::Global;
 
 /// Does what the words say, and writes a line on `err` for each outcome other than `Done`.
@@ -20,9 +21,11 @@ pub fn chill<F: Files, O: Sink, E: Sink>(
     err: &mut E,
 ) -> Outcome
     // Each answer has its cause.
-    ensures answers { Answers (command_of (texts words.now)) (F.state files.old) (F.state files.new) (O.state out.old) (O.state out.new) result }
+    ensures answers { Answers (command_of (map string_bytes words.now)) (F.state files.old) (F.state files.new) (O.state out.old) (O.state out.new) result }
     // Only words of no command are refused as such.
-    ensures usage { result ≡ Outcome.Usage → command_of (texts words.now) ≡ None }
+    ensures usage { result ≡ Outcome.Usage → command_of (map string_bytes words.now) ≡ None }
+    // Other than three words, or an empty one or one that begins with `-`, take no memory.
+    ensures no_words { are_words (map string_bytes words.now) ≡ false → result ≡ Outcome.Usage }
     // No count falls, and each fault of the outside has one that rose.
     ensures counts { Counts (F.state files.old) (F.state files.new) (O.state out.old) (O.state out.new) result }
     // The line of the outcome, as far as `err` takes it.
@@ -34,25 +37,15 @@ pub fn chill<F: Files, O: Sink, E: Sink>(
 }
 
 fn answer<F: Files, O: Sink>(alloc: Global, words: &[String], files: &mut F, out: &mut O) -> Outcome
-    ensures answers { Answers (command_of (texts words.now)) (F.state files.old) (F.state files.new) (O.state out.old) (O.state out.new) result }
-    ensures usage { result ≡ Outcome.Usage → command_of (texts words.now) ≡ None }
+    ensures answers { Answers (command_of (map string_bytes words.now)) (F.state files.old) (F.state files.new) (O.state out.old) (O.state out.new) result }
+    ensures usage { result ≡ Outcome.Usage → command_of (map string_bytes words.now) ≡ None }
+    ensures no_words { are_words (map string_bytes words.now) ≡ false → result ≡ Outcome.Usage }
     ensures counts { Counts (F.state files.old) (F.state files.new) (O.state out.old) (O.state out.new) result }
 {
-    match words {
-        [verb, first, second]
-            if verb.as_str() == "emit" && is_word(first.as_str()) && is_word(second.as_str()) => {
-            run_emit(alloc, first.as_str(), second.as_str(), files, out)
-        }
-        _ => Outcome::Usage,
-    }
-}
-
-// A word that isn't empty and doesn't begin with `-`.
-fn is_word(word: &str) -> bool
-    ensures { result ≡ is_word word.now }
-{
-    match word.as_bytes() {
-        [] => false,
-        [first, ..] => *first != b'-',
+    match request_of(alloc, words) {
+        Ok(Request::Emit { recipe, source }) => run_emit(alloc, recipe, source, files, out),
+        Ok(_) => Outcome::Refused(Refusal::NotYet { file: 1 }),
+        Err(WordsFault::Usage) => Outcome::Usage,
+        Err(WordsFault::NoMemory) => Outcome::NoMemory,
     }
 }

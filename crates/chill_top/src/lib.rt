@@ -2,9 +2,8 @@
 #![tactic(auto)]
 
 mod answer;
-mod emit;
-mod outcome;
-mod say;
+mod emitting;
+mod ending;
 
 pub use answer::chill;
-pub use outcome::{Outcome, Refusal, status};
+pub use emission::emit;

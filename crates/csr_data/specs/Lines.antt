@@ -41,7 +41,7 @@ after (Ok g) f = f g
 after (Err e) f = Err e
 
 abbrev pub table_of : Array → List ℤ → List ℕ → Table
-table_of a es vs = record { name = a.name; kind = a.kind; cells = record { first = extent_at es 0; deep = extent_at es 1; wide = extent_at es 2; cells = vs } }
+table_of a es vs = record { name = a.name; kind = a.kind; dimensions = length a.extents; cells = record { first = extent_at es 0; deep = extent_at es 1; wide = extent_at es 2; cells = vs } }
 
 -- a parameter is at most 2^24; a value past the range of `i64` is told as the greatest one
 abbrev pub limited : Name → Given → ℕ → Said

@@ -80,6 +80,7 @@ fn table(bytes: &[u8], kind: Kind, cells: Cells) -> Table
     Table {
         name: name(bytes),
         kind,
+        dimensions: 1,
         cells: Grid::from_cells(cells, first, [1, 1]),
     }
 }

@@ -90,6 +90,8 @@ fn is_parameter(wanted: &Wanted) -> bool
 impl<'a> Held<'a> {
     ghost use Rattle.csr_data.specs.Reading.{IsAbout, IsSameLine};
     ghost use Rattle.csr_data.specs.Signature.{IsSignature};
+    ghost use Rattle.csr_data.specs.Values.{params_of};
+    ghost use Rattle.csr_data.specs.Parameters.{AreSmall};
 
     pub(crate) fn new(alloc: Global, program: &'a Program) -> Held<'a>
         requires { IsSignature program.now }
@@ -317,6 +319,7 @@ impl<'a> Held<'a> {
     /// What stands where the text has ended, and no line is open.
     fn values(self) -> Result<Values, ValuesFault>
         requires { self.begun ≡ false }
+        ensures { IfOk result (λ values. AreSmall (params_of values)) }
     {
         if let Some(wanted) = wanted_at(self.program, self.lines) {
             return Err(ValuesFault::Missing {
@@ -335,6 +338,7 @@ impl<'a> Held<'a> {
     /// The text has ended.
     pub(crate) fn end(self) -> Result<Values, Halt>
         requires { self.read ≤ 2 ^ 62 }
+        ensures { IfOk result (λ values. AreSmall (params_of values)) }
     {
         let mut held = self;
         if let Err(halt) = held.close() {

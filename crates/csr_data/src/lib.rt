@@ -15,6 +15,7 @@ mod values;
 
 pub use fault::{CsrWhy, ValuesFault};
 pub use generator::generate;
+pub use lookup::parameter_value;
 pub use print::print_values;
 pub use reader::DataReader;
-pub use values::Values;
+pub use values::{Parameter, Table, Values};

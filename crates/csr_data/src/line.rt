@@ -107,6 +107,7 @@ fn add_array(
     let table = Table {
         name: array.name,
         kind: array.kind,
+        dimensions: array.extents.len(),
         cells: Grid::from_cells(cells, first, inner),
     };
     let Ok(()) = arrays.push(table) else {

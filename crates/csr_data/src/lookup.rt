@@ -6,7 +6,7 @@ use crate::values::Parameter;
 use chill_base::Name;
 
 /// The value of a parameter that is there.
-pub(crate) fn number(params: &[Parameter], name: &Name) -> u64
+pub fn parameter_value(params: &[Parameter], name: &Name) -> u64
     requires { IsTrue (has (names_of params.now) name.now) }
     ensures { result ≡ number_in params.now name.now }
 {

@@ -2,6 +2,8 @@
 ghost use Rattle.std.specs.Prelude.{◌≡◌, ◌≤◌, ◌+◌, ◌^◌, length, None, OnOk, OnErr, IfOk};
 ghost use Rattle.c_judge.specs.Rules.{KeepsRules};
 ghost use Rattle.csr_data.specs.Divisors.{ExtentsHaveDivisors};
+ghost use Rattle.csr_data.specs.Parameters.{AreSmall};
+ghost use Rattle.csr_data.specs.Values.{params_of};
 
 use crate::fault::{Halt, ValuesFault};
 use crate::parts::Held;
@@ -61,8 +63,10 @@ impl<'a> DataReader<'a> {
         }
     }
 
-    /// The values that the text gives.
-    pub fn finish(self) -> Result<Values, Stop<ValuesFault>> {
+    /// The values that the text gives. No parameter is past 2^24.
+    pub fn finish(self) -> Result<Values, Stop<ValuesFault>>
+        ensures { IfOk result (λ values. AreSmall (params_of values)) }
+    {
         let DataReader { held, halt, .. } = self;
         if let Some(halt) = halt {
             return Err(halt.stop());

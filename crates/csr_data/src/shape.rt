@@ -6,7 +6,7 @@ ghost use Rattle.csr_data.specs.Extents.{first_negative, extent_at, cells_wanted
 ghost use Rattle.csr_data.specs.Parameters.{names_of, sight_of, AreSmall};
 ghost use Rattle.csr_data.specs.Signature.{IsExtent, AreExtents};
 
-use crate::lookup;
+use crate::lookup::parameter_value;
 use crate::values::Parameter;
 use c_meaning::{View, eval_index};
 use c_tree::Index;
@@ -28,7 +28,7 @@ impl View for Parameters<'_> {
     ghost sight = { λ v. sight_of v.params.now };
 
     fn value(&self, name: &Name) -> i64 {
-        lookup::number(self.params, name) as i64
+        parameter_value(self.params, name) as i64
     }
 
     #[tactic(auto, using(crate::proofs::Extents::none_seen))]

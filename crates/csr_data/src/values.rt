@@ -7,17 +7,19 @@ use raw_store::Grid;
 
 /// A parameter with its value.
 #[derive(Clone, Copy)]
-pub(crate) struct Parameter {
-    pub(crate) name: Name,
-    pub(crate) value: u64,
+pub struct Parameter {
+    pub name: Name,
+    pub value: u64,
 }
 
 /// An array with its cells.
 #[derive(Drop)]
-pub(crate) struct Table {
-    pub(crate) name: Name,
-    pub(crate) kind: Kind,
-    pub(crate) cells: Grid,
+pub struct Table {
+    pub name: Name,
+    pub kind: Kind,
+    /// How many extents it has.
+    pub dimensions: usize,
+    pub cells: Grid,
 }
 
 /// The values of a signature's parameters, and the cells of its arrays, in the signature's order.
@@ -30,6 +32,23 @@ pub struct Values {
 impl Values {
     ghost use Rattle.raw_store.specs.Rows.{IsInside};
     ghost use Rattle.csr_data.specs.Values.{param_of, array_of, has_cell, arrays_of, params_of, with_cell};
+
+    /// The values of these parameters, and of these arrays.
+    pub fn from_parts(params: Vec<Parameter>, arrays: Vec<Table>) -> Values
+        ensures params { params_of result ≡ params.items }
+        ensures arrays { arrays_of result ≡ arrays.items }
+    {
+        Values { params, arrays }
+    }
+
+    /// The parameters, and the arrays.
+    pub fn into_parts(self) -> (Vec<Parameter>, Vec<Table>)
+        ensures params { result.0.items ≡ params_of self }
+        ensures arrays { result.1.items ≡ arrays_of self }
+    {
+        let Values { params, arrays } = self;
+        (params, arrays)
+    }
 
     /// The value of a parameter. None exactly where there is no parameter of that name.
     pub fn param(&self, name: &Name) -> Option<u64>

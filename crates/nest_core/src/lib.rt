@@ -12,6 +12,6 @@ mod total;
 pub use apply::{apply_pieces, make_nest, make_nests, statements};
 pub use form::{Frame, judge_form};
 pub use numbers::{LIMIT, is_small, product};
-pub use order::{shared_loops, shares_loop};
+pub use order::{number, shared_loops, shares_loop};
 pub use terms::{is_held, names, names_inside};
 pub use total::Total;

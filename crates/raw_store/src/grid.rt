@@ -64,8 +64,11 @@ impl Grid {
 
     /// The three extents.
     pub fn extents(&self) -> [usize; 3]
-        ensures { result ≡ self.now.first ∷ self.now.deep ∷ self.now.wide ∷ [] }
+        ensures extents { result ≡ self.now.first ∷ self.now.deep ∷ self.now.wide ∷ [] }
+        ensures product { length self.now.cells ≡ self.now.first * (self.now.deep * self.now.wide) }
+        ensures rows { self.now.first ≤ 2 ^ 62 }
     {
+        let _first = self.first;
         [self.first, self.deep, self.wide]
     }
 

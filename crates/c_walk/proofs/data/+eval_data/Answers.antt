@@ -1,5 +1,5 @@
 -- What each call asks, and what is gathered at each part.
-use Rattle.std.proofs.Common.{rules, ◌≡◌, refl, sym, ap, ◌∙◌, subst, Ok, arith, true}
+use Rattle.std.proofs.Common.{rules, sym, ap, ◌∙◌, subst, arith}
 use Rattle.c_tree.specs.declared.data.Expr.{the_lemmas}
 use Rattle.c_walk.specs.State.{state_of}
 use Rattle.c_walk.specs.Ready.{data_fits}

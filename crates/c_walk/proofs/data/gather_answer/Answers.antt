@@ -1,4 +1,4 @@
-use Rattle.std.proofs.Common.{◌≡◌, ◌∙◌, ap, Ok, Err}
+use Rattle.std.proofs.Common.{◌∙◌, ap}
 use Rattle.c_walk.specs.Data.{on_numbers, applied, operated}
 use Rattle.c_walk.proofs.Worths.{no_right}
 use Rattle.c_walk.proofs.data.gather_answer.Goals as goal

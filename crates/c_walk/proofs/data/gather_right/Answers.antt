@@ -1,4 +1,4 @@
-use Rattle.std.proofs.Common.{◌≡◌, ◌∙◌, ap, Ok, Err}
+use Rattle.std.proofs.Common.{◌∙◌, ap, Ok}
 use Rattle.c_walk.specs.Data.{on_numbers, applied, operated}
 use Rattle.c_walk.proofs.Worths.{on_both, no_tail}
 use Rattle.c_walk.proofs.data.gather_right.Goals as goal

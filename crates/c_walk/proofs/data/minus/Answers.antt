@@ -1,4 +1,4 @@
-use Rattle.std.proofs.Common.{rules, Some, None, ◌≡◌, ◌∙◌, ap, ◌<◌, ◌^◌}
+use Rattle.std.proofs.Common.{rules, Some, None, ◌∙◌, ap, ◌<◌, ◌^◌}
 use Rattle.c_walk.specs.Data.{applied, minus_of}
 use Rattle.c_walk.proofs.Worths.{minus_law}
 use Rattle.c_walk.proofs.data.minus.Goals as goal

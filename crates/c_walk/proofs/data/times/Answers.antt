@@ -1,4 +1,4 @@
-use Rattle.std.proofs.Common.{rules, Some, None, ◌≡◌, ◌∙◌, ap, ◌<◌, ◌^◌}
+use Rattle.std.proofs.Common.{Some, None, ◌∙◌, ap}
 use Rattle.c_walk.specs.Data.{applied, times_of}
 use Rattle.c_walk.proofs.Worths.{times_law}
 use Rattle.c_walk.proofs.data.times.Goals as goal

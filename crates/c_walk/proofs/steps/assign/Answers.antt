@@ -1,11 +1,25 @@
-use Rattle.std.proofs.Common.{◌<◌, sym, ap, subst}
-use Rattle.c_meaning.proofs.Fitting.{and_left}
+use Rattle.std.proofs.Common.{◌∙◌, sym, ap, is_ok}
+use Rattle.c_meaning.specs.Scope.{data_cell_fits}
+use Rattle.c_meaning.specs.Value.{subscripts_of}
+use Rattle.c_meaning.proofs.Fitting.{and_left, and_right}
 use Rattle.c_meaning.proofs.Readings.{some_extents}
+use Rattle.c_walk.specs.State.{state_of}
+use Rattle.c_walk.specs.Ready.{data_fits}
+use Rattle.c_walk.proofs.Shown.{are_shown, both}
 use Rattle.c_walk.proofs.steps.assign.Goals as goal
 
 pub data_cell-requires : goal.data_cell-requires
 data_cell-requires g c = some_extents c.args.target.now.at (g.M.View.scope c.args.memory.now) _ (and_left _ _ c.requires)
 
+pub hear-requires-clause-target : goal.hear-requires-clause-target
+hear-requires-clause-target g c =
+    both (data_cell_fits c.args.target.now (g.M.View.scope c.args.memory.now)) (is_ok (subscripts_of c.args.target.now.at (g.M.View.sight c.args.memory.now))) (and_left _ _ c.requires)
+    (ap is_ok (sym c.eval_subscripts.ensures ∙ c.in-Ok-eval_subscripts.is))
+
+pub hear-requires-clause-value : goal.hear-requires-clause-value
+hear-requires-clause-value g c =
+    are_shown c.args.value.now (state_of (g.M.View.scope c.args.memory.now) (g.M.View.sight c.args.memory.now) (g.M.Memory.rest c.args.memory.now)) c.in-Ok.worth
+    (and_right (data_cell_fits c.args.target.now (g.M.View.scope c.args.memory.now)) (data_fits c.args.value.now (g.M.View.scope c.args.memory.now)) c.requires) (sym c.eval_data.ensures ∙ c.in-Ok.is)
+
 pub set_data-requires-clause-has : goal.set_data-requires-clause-has
-set_data-requires-clause-has g c =
-    subst (λ s. 0 < s.data_arrays c.args.target.now.array) (sym (ap (λ s. s.scope) c.announce.ensures)) (some_extents c.args.target.now.at (g.M.View.scope c.args.memory.now) _ (and_left _ _ c.requires))
+set_data-requires-clause-has g c = some_extents c.args.target.now.at (g.M.View.scope c.args.memory.now) _ (and_left _ _ c.requires)

@@ -1,4 +1,4 @@
-use Rattle.std.proofs.Common.{rules, ◌≡◌, refl, sym, ap, ◌∙◌, subst, ℕ, ◌<◌, ◌≤◌, ◌+◌, ◌^◌, ◌∷◌, length, drop, map, arith}
+use Rattle.std.proofs.Common.{rules, ◌≡◌, sym, ap, ◌∙◌, subst, ◌<◌, ◌≤◌, ◌+◌, ◌^◌, ◌∷◌, length, drop, map, arith}
 use Rattle.c_tree.specs.declared.statement.Stmt.{the_lemmas}
 use Rattle.c_meaning.specs.Run.{part, widths}
 use Rattle.c_walk.proofs.Lists.{drop-next, drop-past}

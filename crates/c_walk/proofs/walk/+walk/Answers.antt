@@ -1,25 +1,23 @@
 -- What each call asks, and what each piece does.
-use Rattle.std.proofs.Common.{rules, ◌≡◌, refl, sym, ap, ◌∙◌, subst, w64, to_z, FitsSigned, ℕ, suc, ◌<◌, ◌≤◌, ◌+◌, ◌*◌, ◌^◌, ℤ, pos, ◌+ℤ◌, ◌-ℤ◌, ◌∷◌, [], ◌++◌, length, drop, get_or, map, Ok, Err, true, false, arith, List}
+use Rattle.std.proofs.Common.{rules, ◌≡◌, refl, sym, ap, ◌∙◌, subst, w64, to_z, FitsSigned, suc, ◌<◌, ◌≤◌, ◌+◌, ◌*◌, ◌^◌, ◌∷◌, [], ◌++◌, length, drop, get_or, map, Ok, Err, arith, List}
 use Rattle.std.proofs.lemmas.Int.{to_z-of_z, ints}
 use Rattle.c_tree.specs.declared.statement.Stmt.{Stmt, the_lemmas}
-use Rattle.c_meaning.specs.Value.{value_of, all_hold}
-use Rattle.c_meaning.specs.Memory.{bound, sight_of}
-use Rattle.c_meaning.specs.Listing.{above_zero}
-use Rattle.c_meaning.specs.Run.{part, widths, sequence, turns}
-use Rattle.c_walk.specs.State.{State, state_of, memory_in, with_memory, with_number}
+use Rattle.c_meaning.specs.Memory.{bound}
+use Rattle.c_meaning.specs.Run.{part, widths, sequence}
+use Rattle.c_walk.specs.State.{state_of, memory_in, with_memory, with_number}
 use Rattle.c_walk.specs.Ready.{is_ready, are_ready, most_loops}
-use Rattle.c_walk.specs.Does.{Does}
 use Rattle.c_walk.proofs.Lists.{each_of, drop-next, drop-past}
 use Rattle.c_walk.proofs.Pieces.{remains_all, remains_ends, one_turn, next_turn, stop_turn, end_turns, same_turns, same_body, next_statement, stop_statement, does_loop, no_low, no_high, sequence_none, widths_next}
 use Rattle.c_walk.proofs.Readiness.{loop_ready, guard_tests, guard_body, assignment_ready, put_ready, no_declaration, growth_ready}
 use Rattle.c_walk.proofs.Statements.{child_length, width-If, does-For, does-Assign, does-Put, does-Grow, does_body, passes, no_test}
+use Rattle.c_walk.proofs.Told.{told_same, told_later, told_stops}
 use Rattle.c_walk.proofs.walk.+walk.Goals as goal
 
 pub run_statement-run_loop-requires : goal.run_statement-run_loop-requires
 run_statement-run_loop-requires g t c κs within =
     let one : 1 + (length (g.M.Memory.rest c.args.memory.now).outer) ≡ suc (length (g.M.Memory.rest c.args.memory.now).outer) = omega arith in
     let r = loop_ready (g.M.View.scope c.args.memory.now) (length (g.M.Memory.rest c.args.memory.now).outer) c.args.statement.now c.in-For.var c.in-For.low c.in-For.high c.in-For.body c.in-For.is c.requires.ready in
-    (search (rules, the_lemmas), (search rules, (r.low, (r.high, (ap (λ k. are_ready c.in-For.body (with_number c.in-For.var (g.M.View.scope c.args.memory.now)) k) one ∙ r.body, (r.loops, (omega (arith, ap length c.child_of-here.ensures, child_length c.args.at.now c.args.position, c.requires.place), r.few)))))))
+    (search (rules, the_lemmas), (search rules, (search rules, (r.low, (r.high, (ap (λ k. are_ready c.in-For.body (with_number c.in-For.var (g.M.View.scope c.args.memory.now)) k) one ∙ r.body, (r.loops, (omega (arith, ap length c.child_of-here.ensures, child_length c.args.at.now c.args.position, c.requires.place), r.few))))))))
 
 pub run_statement-eval_tests-requires : goal.run_statement-eval_tests-requires
 run_statement-eval_tests-requires g t c =
@@ -27,7 +25,7 @@ run_statement-eval_tests-requires g t c =
 
 pub run_statement-run_statements-requires : goal.run_statement-run_statements-requires
 run_statement-run_statements-requires g t c κs within =
-    (search (rules, the_lemmas), (search rules, (guard_body (g.M.View.scope c.args.memory.now) (length (g.M.Memory.rest c.args.memory.now).outer) c.args.statement.now c.in-If.tests c.in-If.body c.in-If.is c.requires.ready, (c.requires.loops, (c.requires.place, subst (λ w. c.args.position + w ≤ 2 ^ 33) (width-If c.args.statement.now c.in-If.tests c.in-If.body c.in-If.is) c.requires.few)))))
+    (search (rules, the_lemmas), (search rules, (search rules, (guard_body (g.M.View.scope c.args.memory.now) (length (g.M.Memory.rest c.args.memory.now).outer) c.args.statement.now c.in-If.tests c.in-If.body c.in-If.is c.requires.ready, (c.requires.loops, (c.requires.place, subst (λ w. c.args.position + w ≤ 2 ^ 33) (width-If c.args.statement.now c.in-If.tests c.in-If.body c.in-If.is) c.requires.few))))))
 
 pub run_statement-assign-requires : goal.run_statement-assign-requires
 run_statement-assign-requires g t c =
@@ -47,49 +45,99 @@ run_statement-grow-requires g t c =
 
 pub run_statement-returns-in-For : goal.run_statement-returns-in-For
 run_statement-returns-in-For g t c =
-    does-For c.args.statement.now (g.M.View.sight c.args.memory.now).value c.args.at.now c.child_of-here.result c.args.position (state_of (g.M.View.scope c.args.memory.now) (g.M.View.sight c.args.memory.now) (g.M.Memory.rest c.args.memory.now)) (state_of (g.M.View.scope c.run_loop.new.memory) (g.M.View.sight c.run_loop.new.memory) (g.M.Memory.rest c.run_loop.new.memory)) c.run_loop.result c.child_of-here.ensures c.in-For.var c.in-For.low c.in-For.high c.in-For.body c.in-For.is c.run_loop.ensures
+    record {
+      does = (
+          does-For c.args.statement.now (g.M.View.sight c.args.memory.now).value c.args.at.now c.child_of-here.result c.args.position (state_of (g.M.View.scope c.args.memory.now) (g.M.View.sight c.args.memory.now) (g.M.Memory.rest c.args.memory.now)) (state_of (g.M.View.scope c.run_loop.new.memory) (g.M.View.sight c.run_loop.new.memory) (g.M.Memory.rest c.run_loop.new.memory)) c.run_loop.result c.child_of-here.ensures c.in-For.var c.in-For.low c.in-For.high c.in-For.body c.in-For.is c.run_loop.ensures.does
+          );
+      told = c.run_loop.ensures.told;
+    }
 
 pub run_statement-returns-in-Assign : goal.run_statement-returns-in-Assign
 run_statement-returns-in-Assign g t c =
-    does-Assign c.args.statement.now (g.M.View.sight c.args.memory.now).value c.args.at.now c.child_of-here.result c.args.position (state_of (g.M.View.scope c.args.memory.now) (g.M.View.sight c.args.memory.now) (g.M.Memory.rest c.args.memory.now)) (state_of (g.M.View.scope c.assign.new.memory) (g.M.View.sight c.assign.new.memory) (g.M.Memory.rest c.assign.new.memory)) c.assign.result c.child_of-here.ensures c.in-Assign.target c.in-Assign.how c.in-Assign.value c.in-Assign.is c.assign.ensures
+    record {
+      does = (
+          does-Assign c.args.statement.now (g.M.View.sight c.args.memory.now).value c.args.at.now c.child_of-here.result c.args.position (state_of (g.M.View.scope c.args.memory.now) (g.M.View.sight c.args.memory.now) (g.M.Memory.rest c.args.memory.now)) (state_of (g.M.View.scope c.assign.new.memory) (g.M.View.sight c.assign.new.memory) (g.M.Memory.rest c.assign.new.memory)) c.assign.result c.child_of-here.ensures c.in-Assign.target c.in-Assign.how c.in-Assign.value c.in-Assign.is c.assign.ensures.does
+          );
+      told = c.assign.ensures.told;
+    }
 
 pub run_statement-returns-in-Put : goal.run_statement-returns-in-Put
 run_statement-returns-in-Put g t c =
-    does-Put c.args.statement.now (g.M.View.sight c.args.memory.now).value c.args.at.now c.child_of-here.result c.args.position (state_of (g.M.View.scope c.args.memory.now) (g.M.View.sight c.args.memory.now) (g.M.Memory.rest c.args.memory.now)) (state_of (g.M.View.scope c.put.new.memory) (g.M.View.sight c.put.new.memory) (g.M.Memory.rest c.put.new.memory)) c.put.result c.child_of-here.ensures c.in-Put.target c.in-Put.value c.in-Put.is c.put.ensures
+    record {
+      does = (
+          does-Put c.args.statement.now (g.M.View.sight c.args.memory.now).value c.args.at.now c.child_of-here.result c.args.position (state_of (g.M.View.scope c.args.memory.now) (g.M.View.sight c.args.memory.now) (g.M.Memory.rest c.args.memory.now)) (state_of (g.M.View.scope c.put.new.memory) (g.M.View.sight c.put.new.memory) (g.M.Memory.rest c.put.new.memory)) c.put.result c.child_of-here.ensures c.in-Put.target c.in-Put.value c.in-Put.is c.put.ensures.does
+          );
+      told = told_same _ _ c.put.ensures.quiet;
+    }
 
 pub run_statement-returns-in-Grow : goal.run_statement-returns-in-Grow
 run_statement-returns-in-Grow g t c =
-    does-Grow c.args.statement.now (g.M.View.sight c.args.memory.now).value c.args.at.now c.child_of-here.result c.args.position (state_of (g.M.View.scope c.args.memory.now) (g.M.View.sight c.args.memory.now) (g.M.Memory.rest c.args.memory.now)) (state_of (g.M.View.scope c.grow.new.memory) (g.M.View.sight c.grow.new.memory) (g.M.Memory.rest c.grow.new.memory)) c.grow.result c.child_of-here.ensures c.in-Grow.name c.in-Grow.by c.in-Grow.is c.grow.ensures
+    record {
+      does = (
+          does-Grow c.args.statement.now (g.M.View.sight c.args.memory.now).value c.args.at.now c.child_of-here.result c.args.position (state_of (g.M.View.scope c.args.memory.now) (g.M.View.sight c.args.memory.now) (g.M.Memory.rest c.args.memory.now)) (state_of (g.M.View.scope c.grow.new.memory) (g.M.View.sight c.grow.new.memory) (g.M.Memory.rest c.grow.new.memory)) c.grow.result c.child_of-here.ensures c.in-Grow.name c.in-Grow.by c.in-Grow.is c.grow.ensures.does
+          );
+      told = told_same _ _ c.grow.ensures.quiet;
+    }
 
 pub run_statement-returns-in-Ok-true : goal.run_statement-returns-in-Ok-true
 run_statement-returns-in-Ok-true g t c =
-    does_body c.args.statement.now (g.M.View.sight c.args.memory.now).value c.args.at.now c.args.position c.in-If.tests c.in-If.body c.in-If.is (state_of (g.M.View.scope c.args.memory.now) (g.M.View.sight c.args.memory.now) (g.M.Memory.rest c.args.memory.now)) (state_of (g.M.View.scope c.run_statements.new.memory) (g.M.View.sight c.run_statements.new.memory) (g.M.Memory.rest c.run_statements.new.memory)) c.run_statements.result (sym c.eval_tests.ensures ∙ c.in-Ok-true.is ∙ ap Ok c.in-Ok-true.field-0-test) c.run_statements.ensures
+    record {
+      does = (
+          does_body c.args.statement.now (g.M.View.sight c.args.memory.now).value c.args.at.now c.args.position c.in-If.tests c.in-If.body c.in-If.is (state_of (g.M.View.scope c.args.memory.now) (g.M.View.sight c.args.memory.now) (g.M.Memory.rest c.args.memory.now)) (state_of (g.M.View.scope c.run_statements.new.memory) (g.M.View.sight c.run_statements.new.memory) (g.M.Memory.rest c.run_statements.new.memory)) c.run_statements.result (sym c.eval_tests.ensures ∙ c.in-Ok-true.is ∙ ap Ok c.in-Ok-true.field-0-test) c.run_statements.ensures.does
+          );
+      told = c.run_statements.ensures.told;
+    }
 
 pub run_statement-returns-in-Ok-false : goal.run_statement-returns-in-Ok-false
 run_statement-returns-in-Ok-false g t c =
-    passes c.args.statement.now (g.M.View.sight c.args.memory.now).value c.args.at.now c.args.position c.in-If.tests c.in-If.body c.in-If.is (state_of (g.M.View.scope c.args.memory.now) (g.M.View.sight c.args.memory.now) (g.M.Memory.rest c.args.memory.now)) tt (sym c.eval_tests.ensures ∙ c.in-Ok-false.is ∙ ap Ok c.in-Ok-false.field-0-test)
+    record {
+      does = (
+          passes c.args.statement.now (g.M.View.sight c.args.memory.now).value c.args.at.now c.args.position c.in-If.tests c.in-If.body c.in-If.is (state_of (g.M.View.scope c.args.memory.now) (g.M.View.sight c.args.memory.now) (g.M.Memory.rest c.args.memory.now)) tt (sym c.eval_tests.ensures ∙ c.in-Ok-false.is ∙ ap Ok c.in-Ok-false.field-0-test)
+          );
+      told = told_same _ _ (λ e. cc);
+    }
 
 pub run_statement-returns-in-Err : goal.run_statement-returns-in-Err
 run_statement-returns-in-Err g t c =
-    no_test c.args.statement.now (g.M.View.sight c.args.memory.now).value c.args.at.now c.args.position c.in-If.tests c.in-If.body c.in-If.is (state_of (g.M.View.scope c.args.memory.now) (g.M.View.sight c.args.memory.now) (g.M.Memory.rest c.args.memory.now)) c.child_of-here.result c.in-Err.fault c.child_of-here.ensures (sym c.eval_tests.ensures ∙ c.in-Err.is)
+    record {
+      does = (
+          no_test c.args.statement.now (g.M.View.sight c.args.memory.now).value c.args.at.now c.args.position c.in-If.tests c.in-If.body c.in-If.is (state_of (g.M.View.scope c.args.memory.now) (g.M.View.sight c.args.memory.now) (g.M.Memory.rest c.args.memory.now)) c.child_of-here.result c.in-Err.fault c.child_of-here.ensures (sym c.eval_tests.ensures ∙ c.in-Err.is)
+          );
+      told = told_same _ _ (λ e. cc);
+    }
 
 pub run_loop-returns : goal.run_loop-returns
 run_loop-returns g t c =
-    let f : FitsSigned w64 c.in-Ok.value = search rules in
-    let h : FitsSigned w64 c.in-Ok-eval_index.value = search rules in
-    does_loop c.args.var.now c.args.low.now c.args.high.now c.args.body.now (g.M.View.sight c.args.memory.now).value c.args.at.now (state_of (g.M.View.scope c.args.memory.now) (g.M.View.sight c.args.memory.now) (g.M.Memory.rest c.args.memory.now)) (state_of (g.M.View.scope c.run_turns.new.memory) (g.M.View.sight c.run_turns.new.memory) (g.M.Memory.rest c.run_turns.new.memory)) c.run_turns.result c.in-Ok.value c.in-Ok-eval_index.value _ _ (sym c.eval_index.ensures ∙ c.in-Ok.is) (sym c.eval_index-2.ensures ∙ c.in-Ok-eval_index.is) (to_z-of_z w64 c.in-Ok.value f) (to_z-of_z w64 c.in-Ok-eval_index.value h) c.run_turns.ensures
+    record {
+      does = (
+          let f : FitsSigned w64 c.in-Ok.value = search rules in
+          let h : FitsSigned w64 c.in-Ok-eval_index.value = search rules in
+          does_loop c.args.var.now c.args.low.now c.args.high.now c.args.body.now (g.M.View.sight c.args.memory.now).value c.args.at.now (state_of (g.M.View.scope c.args.memory.now) (g.M.View.sight c.args.memory.now) (g.M.Memory.rest c.args.memory.now)) (state_of (g.M.View.scope c.run_turns.new.memory) (g.M.View.sight c.run_turns.new.memory) (g.M.Memory.rest c.run_turns.new.memory)) c.run_turns.result c.in-Ok.value c.in-Ok-eval_index.value _ _ (sym c.eval_index.ensures ∙ c.in-Ok.is) (sym c.eval_index-2.ensures ∙ c.in-Ok-eval_index.is) (to_z-of_z w64 c.in-Ok.value f) (to_z-of_z w64 c.in-Ok-eval_index.value h) c.run_turns.ensures.does
+          );
+      told = c.run_turns.ensures.told;
+    }
 
 pub run_loop-returns-in-Err : goal.run_loop-returns-in-Err
 run_loop-returns-in-Err g t c =
-    no_low c.args.var.now c.args.low.now c.args.high.now c.args.body.now (g.M.View.sight c.args.memory.now).value c.args.at.now (state_of (g.M.View.scope c.args.memory.now) (g.M.View.sight c.args.memory.now) (g.M.Memory.rest c.args.memory.now)) c.in-Err.fault (sym c.eval_index.ensures ∙ c.in-Err.is)
+    record {
+      does = (
+          no_low c.args.var.now c.args.low.now c.args.high.now c.args.body.now (g.M.View.sight c.args.memory.now).value c.args.at.now (state_of (g.M.View.scope c.args.memory.now) (g.M.View.sight c.args.memory.now) (g.M.Memory.rest c.args.memory.now)) c.in-Err.fault (sym c.eval_index.ensures ∙ c.in-Err.is)
+          );
+      told = told_same _ _ (λ e. cc);
+    }
 
 pub run_loop-returns-in-Err-eval_index : goal.run_loop-returns-in-Err-eval_index
 run_loop-returns-in-Err-eval_index g t c =
-    no_high c.args.var.now c.args.low.now c.args.high.now c.args.body.now (g.M.View.sight c.args.memory.now).value c.args.at.now (state_of (g.M.View.scope c.args.memory.now) (g.M.View.sight c.args.memory.now) (g.M.Memory.rest c.args.memory.now)) c.in-Ok.value c.in-Err-eval_index.fault (sym c.eval_index.ensures ∙ c.in-Ok.is) (sym c.eval_index-2.ensures ∙ c.in-Err-eval_index.is)
+    record {
+      does = (
+          no_high c.args.var.now c.args.low.now c.args.high.now c.args.body.now (g.M.View.sight c.args.memory.now).value c.args.at.now (state_of (g.M.View.scope c.args.memory.now) (g.M.View.sight c.args.memory.now) (g.M.Memory.rest c.args.memory.now)) c.in-Ok.value c.in-Err-eval_index.fault (sym c.eval_index.ensures ∙ c.in-Ok.is) (sym c.eval_index-2.ensures ∙ c.in-Err-eval_index.is)
+          );
+      told = told_same _ _ (λ e. cc);
+    }
 
 pub run_statements-loop-statement-init : goal.run_statements-loop-statement-init
 run_statements-loop-statement-init g t c =
-    record { count = ap (λ l. c.args.first + widths (map part l)) c.as_slice-statement-items.ensures; remains = remains_all _ _ (state_of (g.M.View.scope c.args.memory.now) (g.M.View.sight c.args.memory.now) (g.M.Memory.rest c.args.memory.now)) (ap (λ l. sequence (map part l) (g.M.View.sight c.args.memory.now).value c.args.at.now c.args.first) (sym c.as_slice-statement-items.ensures)) }
+    record { count = ap (λ l. c.args.first + widths (map part l)) c.as_slice-statement-items.ensures; remains = remains_all _ _ (state_of (g.M.View.scope c.args.memory.now) (g.M.View.sight c.args.memory.now) (g.M.Memory.rest c.args.memory.now)) (ap (λ l. sequence (map part l) (g.M.View.sight c.args.memory.now).value c.args.at.now c.args.first) (sym c.as_slice-statement-items.ensures)); later = omega arith }
 
 pub run_statements-run_statement-requires : goal.run_statements-run_statement-requires
 run_statements-run_statement-requires g t c κs within =
@@ -102,14 +150,17 @@ run_statements-run_statement-requires g t c κs within =
       (
         search rules,
         (
-          ap (λ k. is_ready c.statement-item.result k (length (g.M.Memory.rest c.loop-statement.memory).outer)) scope ∙ ap (λ o. is_ready c.statement-item.result (g.M.View.scope c.args.memory.now) (length o)) outer
-              ∙ ap (λ t. is_ready t (g.M.View.scope c.args.memory.now) (length (g.M.Memory.rest c.args.memory.now).outer)) (c.statement-item.is ∙ ap (λ l. get_or l c.loop-statement.statement-index c.statement-item.result) c.as_slice-statement-items.ensures)
-              ∙ each_of (λ t. is_ready t (g.M.View.scope c.args.memory.now) (length (g.M.Memory.rest c.args.memory.now).outer)) c.args.list.now c.loop-statement.statement-index c.statement-item.result c.requires.ready (subst (λ (l : List Stmt). c.loop-statement.statement-index < length l) c.as_slice-statement-items.ensures lt),
+          search rules,
           (
-            subst (λ o. length o ≤ most_loops) (sym outer) c.requires.loops,
+            ap (λ k. is_ready c.statement-item.result k (length (g.M.Memory.rest c.loop-statement.memory).outer)) scope ∙ ap (λ o. is_ready c.statement-item.result (g.M.View.scope c.args.memory.now) (length o)) outer
+                ∙ ap (λ t. is_ready t (g.M.View.scope c.args.memory.now) (length (g.M.Memory.rest c.args.memory.now).outer)) (c.statement-item.is ∙ ap (λ l. get_or l c.loop-statement.statement-index c.statement-item.result) c.as_slice-statement-items.ensures)
+                ∙ each_of (λ t. is_ready t (g.M.View.scope c.args.memory.now) (length (g.M.Memory.rest c.args.memory.now).outer)) c.args.list.now c.loop-statement.statement-index c.statement-item.result c.requires.ready (subst (λ (l : List Stmt). c.loop-statement.statement-index < length l) c.as_slice-statement-items.ensures lt),
             (
-              c.requires.place ∙ ap (λ o. 2 * length o) (sym outer),
-              omega (arith, c.loop-statement.invariant.count, widths_next _ _ c.statement-item.result next, c.requires.few),
+              subst (λ o. length o ≤ most_loops) (sym outer) c.requires.loops,
+              (
+                c.requires.place ∙ ap (λ o. 2 * length o) (sym outer),
+                omega (arith, c.loop-statement.invariant.count, widths_next _ _ c.statement-item.result next, c.requires.few),
+              ),
             ),
           ),
         ),
@@ -123,39 +174,53 @@ run_statements-loop-statement-preserved g t c =
     let frame : (state_of (g.M.View.scope c.loop-statement.memory) (g.M.View.sight c.loop-statement.memory) (g.M.Memory.rest c.loop-statement.memory)) ≡ with_memory (memory_in (state_of (g.M.View.scope c.loop-statement.memory) (g.M.View.sight c.loop-statement.memory) (g.M.Memory.rest c.loop-statement.memory))) (state_of (g.M.View.scope c.args.memory.now) (g.M.View.sight c.args.memory.now) (g.M.Memory.rest c.args.memory.now)) = c.loop-statement.invariant.remains.frame in
     record {
       count = omega (arith, c.loop-statement.invariant.count, widths_next _ _ c.statement-item.result next, c.positions_after-position.ensures);
-      remains = next_statement (sequence (map part c.args.list.now) (g.M.View.sight c.args.memory.now).value c.args.at.now c.args.first) c.as_slice-statement-items.result.now (g.M.View.sight c.args.memory.now).value c.args.at.now (state_of (g.M.View.scope c.args.memory.now) (g.M.View.sight c.args.memory.now) (g.M.Memory.rest c.args.memory.now)) (state_of (g.M.View.scope c.loop-statement.memory) (g.M.View.sight c.loop-statement.memory) (g.M.Memory.rest c.loop-statement.memory)) c.loop-statement.statement-index c.loop-statement.position c.statement-item.result (state_of (g.M.View.scope c.run_statement.new.memory) (g.M.View.sight c.run_statement.new.memory) (g.M.Memory.rest c.run_statement.new.memory)) _ c.positions_after-position.result c.run_statement.result c.in_default.field-0 c.loop-statement.invariant.remains next c.positions_after-position.ensures (ap (λ s. (s.sight).value) frame) c.in_default.is c.run_statement.ensures;
+      remains = next_statement (sequence (map part c.args.list.now) (g.M.View.sight c.args.memory.now).value c.args.at.now c.args.first) c.as_slice-statement-items.result.now (g.M.View.sight c.args.memory.now).value c.args.at.now (state_of (g.M.View.scope c.args.memory.now) (g.M.View.sight c.args.memory.now) (g.M.Memory.rest c.args.memory.now)) (state_of (g.M.View.scope c.loop-statement.memory) (g.M.View.sight c.loop-statement.memory) (g.M.Memory.rest c.loop-statement.memory)) c.loop-statement.statement-index c.loop-statement.position c.statement-item.result (state_of (g.M.View.scope c.run_statement.new.memory) (g.M.View.sight c.run_statement.new.memory) (g.M.Memory.rest c.run_statement.new.memory)) _ c.positions_after-position.result c.run_statement.result c.in_default.field-0 c.loop-statement.invariant.remains next c.positions_after-position.ensures (ap (λ s. (s.sight).value) frame) c.in_default.is c.run_statement.ensures.does;
+      later = omega (arith, c.loop-statement.invariant.later, c.run_statement.ensures.told.later);
     }
 
 pub run_statements-returns-in-Err : goal.run_statements-returns-in-Err
 run_statements-returns-in-Err g t c =
-    let lt : c.loop-statement.statement-index < length c.as_slice-statement-items.result.now = omega (arith, c.loop-statement-test.true) in
-    let next : drop c.loop-statement.statement-index c.as_slice-statement-items.result.now ≡ c.statement-item.result ∷ drop (c.loop-statement.statement-index + 1) c.as_slice-statement-items.result.now = drop-next c.as_slice-statement-items.result.now c.loop-statement.statement-index c.statement-item.result lt ∙ ap (λ t. t ∷ drop (c.loop-statement.statement-index + 1) c.as_slice-statement-items.result.now) (sym c.statement-item.is) in
-    let frame : (state_of (g.M.View.scope c.loop-statement.memory) (g.M.View.sight c.loop-statement.memory) (g.M.Memory.rest c.loop-statement.memory)) ≡ with_memory (memory_in (state_of (g.M.View.scope c.loop-statement.memory) (g.M.View.sight c.loop-statement.memory) (g.M.Memory.rest c.loop-statement.memory))) (state_of (g.M.View.scope c.args.memory.now) (g.M.View.sight c.args.memory.now) (g.M.Memory.rest c.args.memory.now)) = c.loop-statement.invariant.remains.frame in
-    stop_statement (sequence (map part c.args.list.now) (g.M.View.sight c.args.memory.now).value c.args.at.now c.args.first) c.as_slice-statement-items.result.now (g.M.View.sight c.args.memory.now).value c.args.at.now (state_of (g.M.View.scope c.args.memory.now) (g.M.View.sight c.args.memory.now) (g.M.Memory.rest c.args.memory.now)) (state_of (g.M.View.scope c.loop-statement.memory) (g.M.View.sight c.loop-statement.memory) (g.M.Memory.rest c.loop-statement.memory)) c.loop-statement.statement-index c.loop-statement.position c.statement-item.result (state_of (g.M.View.scope c.run_statement.new.memory) (g.M.View.sight c.run_statement.new.memory) (g.M.Memory.rest c.run_statement.new.memory)) _ c.run_statement.result c.in-Err.halt c.loop-statement.invariant.remains next (ap (λ s. (s.sight).value) frame) c.in-Err.is c.run_statement.ensures
+    record {
+      does = (
+          let lt : c.loop-statement.statement-index < length c.as_slice-statement-items.result.now = omega (arith, c.loop-statement-test.true) in
+          let next : drop c.loop-statement.statement-index c.as_slice-statement-items.result.now ≡ c.statement-item.result ∷ drop (c.loop-statement.statement-index + 1) c.as_slice-statement-items.result.now = drop-next c.as_slice-statement-items.result.now c.loop-statement.statement-index c.statement-item.result lt ∙ ap (λ t. t ∷ drop (c.loop-statement.statement-index + 1) c.as_slice-statement-items.result.now) (sym c.statement-item.is) in
+          let frame : (state_of (g.M.View.scope c.loop-statement.memory) (g.M.View.sight c.loop-statement.memory) (g.M.Memory.rest c.loop-statement.memory)) ≡ with_memory (memory_in (state_of (g.M.View.scope c.loop-statement.memory) (g.M.View.sight c.loop-statement.memory) (g.M.Memory.rest c.loop-statement.memory))) (state_of (g.M.View.scope c.args.memory.now) (g.M.View.sight c.args.memory.now) (g.M.Memory.rest c.args.memory.now)) = c.loop-statement.invariant.remains.frame in
+          stop_statement (sequence (map part c.args.list.now) (g.M.View.sight c.args.memory.now).value c.args.at.now c.args.first) c.as_slice-statement-items.result.now (g.M.View.sight c.args.memory.now).value c.args.at.now (state_of (g.M.View.scope c.args.memory.now) (g.M.View.sight c.args.memory.now) (g.M.Memory.rest c.args.memory.now)) (state_of (g.M.View.scope c.loop-statement.memory) (g.M.View.sight c.loop-statement.memory) (g.M.Memory.rest c.loop-statement.memory)) c.loop-statement.statement-index c.loop-statement.position c.statement-item.result (state_of (g.M.View.scope c.run_statement.new.memory) (g.M.View.sight c.run_statement.new.memory) (g.M.Memory.rest c.run_statement.new.memory)) _ c.run_statement.result c.in-Err.halt c.loop-statement.invariant.remains next (ap (λ s. (s.sight).value) frame) c.in-Err.is c.run_statement.ensures.does
+          );
+      told = told_stops _ _ _ c.run_statement.result c.in-Err.halt c.loop-statement.invariant.later c.in-Err.is c.run_statement.ensures.told;
+    }
 
 pub run_statements-returns : goal.run_statements-returns
 run_statements-returns g t c =
-    remains_ends (sequence (map part c.args.list.now) (g.M.View.sight c.args.memory.now).value c.args.at.now c.args.first) _ (state_of (g.M.View.scope c.args.memory.now) (g.M.View.sight c.args.memory.now) (g.M.Memory.rest c.args.memory.now)) (state_of (g.M.View.scope c.loop-statement.memory) (g.M.View.sight c.loop-statement.memory) (g.M.Memory.rest c.loop-statement.memory)) tt c.loop-statement.invariant.remains (sequence_none _ (g.M.View.sight c.args.memory.now).value c.args.at.now c.loop-statement.position (drop-past c.as_slice-statement-items.result.now c.loop-statement.statement-index (omega (arith, c.loop-statement-test.false))))
+    record {
+      does = (
+          remains_ends (sequence (map part c.args.list.now) (g.M.View.sight c.args.memory.now).value c.args.at.now c.args.first) _ (state_of (g.M.View.scope c.args.memory.now) (g.M.View.sight c.args.memory.now) (g.M.Memory.rest c.args.memory.now)) (state_of (g.M.View.scope c.loop-statement.memory) (g.M.View.sight c.loop-statement.memory) (g.M.Memory.rest c.loop-statement.memory)) tt c.loop-statement.invariant.remains (sequence_none _ (g.M.View.sight c.args.memory.now).value c.args.at.now c.loop-statement.position (drop-past c.as_slice-statement-items.result.now c.loop-statement.statement-index (omega (arith, c.loop-statement-test.false))))
+          );
+      told = told_later _ _ _ c.loop-statement.invariant.later (λ e. cc);
+    }
 
 pub run_turns-loop-value-init : goal.run_turns-loop-value-init
 run_turns-loop-value-init g t c =
-    remains_all _ _ (state_of (g.M.View.scope c.args.memory.now) (g.M.View.sight c.args.memory.now) (g.M.Memory.rest c.args.memory.now)) refl
+    record { remains = remains_all _ _ (state_of (g.M.View.scope c.args.memory.now) (g.M.View.sight c.args.memory.now) (g.M.Memory.rest c.args.memory.now)) refl; later = omega arith }
 
 pub run_turns-run_turn-requires : goal.run_turns-run_turn-requires
 run_turns-run_turn-requires g t c κs within =
-    let frame : (state_of (g.M.View.scope c.loop-value.memory) (g.M.View.sight c.loop-value.memory) (g.M.Memory.rest c.loop-value.memory)) ≡ with_memory (memory_in (state_of (g.M.View.scope c.loop-value.memory) (g.M.View.sight c.loop-value.memory) (g.M.Memory.rest c.loop-value.memory))) (state_of (g.M.View.scope c.args.memory.now) (g.M.View.sight c.args.memory.now) (g.M.Memory.rest c.args.memory.now)) = c.loop-value.invariant.frame in
+    let frame : (state_of (g.M.View.scope c.loop-value.memory) (g.M.View.sight c.loop-value.memory) (g.M.Memory.rest c.loop-value.memory)) ≡ with_memory (memory_in (state_of (g.M.View.scope c.loop-value.memory) (g.M.View.sight c.loop-value.memory) (g.M.Memory.rest c.loop-value.memory))) (state_of (g.M.View.scope c.args.memory.now) (g.M.View.sight c.args.memory.now) (g.M.Memory.rest c.args.memory.now)) = c.loop-value.invariant.remains.frame in
     let scope : g.M.View.scope c.loop-value.memory ≡ (g.M.View.scope c.args.memory.now) = ap (λ s. s.scope) frame in
     let outer : (g.M.Memory.rest c.loop-value.memory).outer ≡ (g.M.Memory.rest c.args.memory.now).outer = ap (λ s. s.outer) frame in (
       search (rules, the_lemmas),
       (
         search rules,
         (
-          ap (λ k. are_ready c.args.body.now (with_number c.args.var.now k) (1 + length (g.M.Memory.rest c.loop-value.memory).outer)) scope ∙ ap (λ o. are_ready c.args.body.now (with_number c.args.var.now (g.M.View.scope c.args.memory.now)) (1 + length o)) outer ∙ c.requires.ready,
+          search rules,
           (
-            subst (λ o. length o < most_loops) (sym outer) c.requires.loops,
+            ap (λ k. are_ready c.args.body.now (with_number c.args.var.now k) (1 + length (g.M.Memory.rest c.loop-value.memory).outer)) scope ∙ ap (λ o. are_ready c.args.body.now (with_number c.args.var.now (g.M.View.scope c.args.memory.now)) (1 + length o)) outer ∙ c.requires.ready,
             (
-              c.requires.place ∙ ap (λ o. 2 * length o + 1) (sym outer),
-              c.requires.few,
+              subst (λ o. length o < most_loops) (sym outer) c.requires.loops,
+              (
+                c.requires.place ∙ ap (λ o. 2 * length o + 1) (sym outer),
+                c.requires.few,
+              ),
             ),
           ),
         ),
@@ -164,20 +229,40 @@ run_turns-run_turn-requires g t c κs within =
 
 pub run_turns-loop-value-preserved : goal.run_turns-loop-value-preserved
 run_turns-loop-value-preserved g t c =
-    let frame : (state_of (g.M.View.scope c.loop-value.memory) (g.M.View.sight c.loop-value.memory) (g.M.Memory.rest c.loop-value.memory)) ≡ with_memory (memory_in (state_of (g.M.View.scope c.loop-value.memory) (g.M.View.sight c.loop-value.memory) (g.M.Memory.rest c.loop-value.memory))) (state_of (g.M.View.scope c.args.memory.now) (g.M.View.sight c.args.memory.now) (g.M.Memory.rest c.args.memory.now)) = c.loop-value.invariant.frame in
-    next_turn _ (λ v. sequence (map part c.args.body.now) (bound c.args.var.now v (g.M.View.sight c.args.memory.now).value) (c.args.at.now ++ v ∷ []) 0) (state_of (g.M.View.scope c.args.memory.now) (g.M.View.sight c.args.memory.now) (g.M.Memory.rest c.args.memory.now)) (state_of (g.M.View.scope c.loop-value.memory) (g.M.View.sight c.loop-value.memory) (g.M.Memory.rest c.loop-value.memory)) _ (to_z w64 c.loop-value.value-bits) (state_of (g.M.View.scope c.run_turn.new.memory) (g.M.View.sight c.run_turn.new.memory) (g.M.Memory.rest c.run_turn.new.memory)) _ c.run_turn.result c.in_default.field-0 (omega (arith, ints)) c.loop-value-test.true c.loop-value.invariant c.in_default.is (same_body c.args.body.now c.args.var.now (to_z w64 c.loop-value.value-bits) _ (g.M.View.sight c.args.memory.now).value c.args.at.now (state_of (g.M.View.scope c.loop-value.memory) (g.M.View.sight c.loop-value.memory) (g.M.Memory.rest c.loop-value.memory)) (state_of (g.M.View.scope c.run_turn.new.memory) (g.M.View.sight c.run_turn.new.memory) (g.M.Memory.rest c.run_turn.new.memory)) c.run_turn.result (ap (λ s. (s.sight).value) frame) c.run_turn.ensures)
+    record {
+      remains = (
+          let frame : (state_of (g.M.View.scope c.loop-value.memory) (g.M.View.sight c.loop-value.memory) (g.M.Memory.rest c.loop-value.memory)) ≡ with_memory (memory_in (state_of (g.M.View.scope c.loop-value.memory) (g.M.View.sight c.loop-value.memory) (g.M.Memory.rest c.loop-value.memory))) (state_of (g.M.View.scope c.args.memory.now) (g.M.View.sight c.args.memory.now) (g.M.Memory.rest c.args.memory.now)) = c.loop-value.invariant.remains.frame in
+          next_turn _ (λ v. sequence (map part c.args.body.now) (bound c.args.var.now v (g.M.View.sight c.args.memory.now).value) (c.args.at.now ++ v ∷ []) 0) (state_of (g.M.View.scope c.args.memory.now) (g.M.View.sight c.args.memory.now) (g.M.Memory.rest c.args.memory.now)) (state_of (g.M.View.scope c.loop-value.memory) (g.M.View.sight c.loop-value.memory) (g.M.Memory.rest c.loop-value.memory)) _ (to_z w64 c.loop-value.value-bits) (state_of (g.M.View.scope c.run_turn.new.memory) (g.M.View.sight c.run_turn.new.memory) (g.M.Memory.rest c.run_turn.new.memory)) _ c.run_turn.result c.in_default.field-0 (omega (arith, ints)) c.loop-value-test.true c.loop-value.invariant.remains c.in_default.is (same_body c.args.body.now c.args.var.now (to_z w64 c.loop-value.value-bits) _ (g.M.View.sight c.args.memory.now).value c.args.at.now (state_of (g.M.View.scope c.loop-value.memory) (g.M.View.sight c.loop-value.memory) (g.M.Memory.rest c.loop-value.memory)) (state_of (g.M.View.scope c.run_turn.new.memory) (g.M.View.sight c.run_turn.new.memory) (g.M.Memory.rest c.run_turn.new.memory)) c.run_turn.result (ap (λ s. (s.sight).value) frame) c.run_turn.ensures.does)
+          );
+      later = omega (arith, c.loop-value.invariant.later, c.run_turn.ensures.told.later);
+    }
 
 pub run_turns-returns : goal.run_turns-returns
 run_turns-returns g t c =
-    same_turns (λ v. sequence (map part c.args.body.now) (bound c.args.var.now v (g.M.View.sight c.args.memory.now).value) (c.args.at.now ++ v ∷ []) 0) (state_of (g.M.View.scope c.args.memory.now) (g.M.View.sight c.args.memory.now) (g.M.Memory.rest c.args.memory.now)) (state_of (g.M.View.scope c.loop-value.memory) (g.M.View.sight c.loop-value.memory) (g.M.Memory.rest c.loop-value.memory)) _ c.args.to _ c.args.from (Ok tt) (to_z-of_z w64 c.args.to c.ranges.to) (to_z-of_z w64 c.args.from c.ranges.from) (end_turns _ (λ v. sequence (map part c.args.body.now) (bound c.args.var.now v (g.M.View.sight c.args.memory.now).value) (c.args.at.now ++ v ∷ []) 0) (state_of (g.M.View.scope c.args.memory.now) (g.M.View.sight c.args.memory.now) (g.M.Memory.rest c.args.memory.now)) (state_of (g.M.View.scope c.loop-value.memory) (g.M.View.sight c.loop-value.memory) (g.M.Memory.rest c.loop-value.memory)) _ (to_z w64 c.loop-value.value-bits) tt c.loop-value-test.false c.loop-value.invariant)
+    record {
+      does = (
+          same_turns (λ v. sequence (map part c.args.body.now) (bound c.args.var.now v (g.M.View.sight c.args.memory.now).value) (c.args.at.now ++ v ∷ []) 0) (state_of (g.M.View.scope c.args.memory.now) (g.M.View.sight c.args.memory.now) (g.M.Memory.rest c.args.memory.now)) (state_of (g.M.View.scope c.loop-value.memory) (g.M.View.sight c.loop-value.memory) (g.M.Memory.rest c.loop-value.memory)) _ c.args.to _ c.args.from (Ok tt) (to_z-of_z w64 c.args.to c.ranges.to) (to_z-of_z w64 c.args.from c.ranges.from) (end_turns _ (λ v. sequence (map part c.args.body.now) (bound c.args.var.now v (g.M.View.sight c.args.memory.now).value) (c.args.at.now ++ v ∷ []) 0) (state_of (g.M.View.scope c.args.memory.now) (g.M.View.sight c.args.memory.now) (g.M.Memory.rest c.args.memory.now)) (state_of (g.M.View.scope c.loop-value.memory) (g.M.View.sight c.loop-value.memory) (g.M.Memory.rest c.loop-value.memory)) _ (to_z w64 c.loop-value.value-bits) tt c.loop-value-test.false c.loop-value.invariant.remains)
+          );
+      told = told_later _ _ _ c.loop-value.invariant.later (λ e. cc);
+    }
 
 pub run_turns-returns-in-Err : goal.run_turns-returns-in-Err
 run_turns-returns-in-Err g t c =
-    let frame : (state_of (g.M.View.scope c.loop-value.memory) (g.M.View.sight c.loop-value.memory) (g.M.Memory.rest c.loop-value.memory)) ≡ with_memory (memory_in (state_of (g.M.View.scope c.loop-value.memory) (g.M.View.sight c.loop-value.memory) (g.M.Memory.rest c.loop-value.memory))) (state_of (g.M.View.scope c.args.memory.now) (g.M.View.sight c.args.memory.now) (g.M.Memory.rest c.args.memory.now)) = c.loop-value.invariant.frame in
-    same_turns (λ v. sequence (map part c.args.body.now) (bound c.args.var.now v (g.M.View.sight c.args.memory.now).value) (c.args.at.now ++ v ∷ []) 0) (state_of (g.M.View.scope c.args.memory.now) (g.M.View.sight c.args.memory.now) (g.M.Memory.rest c.args.memory.now)) (state_of (g.M.View.scope c.run_turn.new.memory) (g.M.View.sight c.run_turn.new.memory) (g.M.Memory.rest c.run_turn.new.memory)) _ c.args.to _ c.args.from (Err c.in-Err.halt) (to_z-of_z w64 c.args.to c.ranges.to) (to_z-of_z w64 c.args.from c.ranges.from) (stop_turn _ (λ v. sequence (map part c.args.body.now) (bound c.args.var.now v (g.M.View.sight c.args.memory.now).value) (c.args.at.now ++ v ∷ []) 0) (state_of (g.M.View.scope c.args.memory.now) (g.M.View.sight c.args.memory.now) (g.M.Memory.rest c.args.memory.now)) (state_of (g.M.View.scope c.loop-value.memory) (g.M.View.sight c.loop-value.memory) (g.M.Memory.rest c.loop-value.memory)) _ (to_z w64 c.loop-value.value-bits) (state_of (g.M.View.scope c.run_turn.new.memory) (g.M.View.sight c.run_turn.new.memory) (g.M.Memory.rest c.run_turn.new.memory)) c.run_turn.result c.in-Err.halt c.loop-value-test.true c.loop-value.invariant c.in-Err.is (same_body c.args.body.now c.args.var.now (to_z w64 c.loop-value.value-bits) _ (g.M.View.sight c.args.memory.now).value c.args.at.now (state_of (g.M.View.scope c.loop-value.memory) (g.M.View.sight c.loop-value.memory) (g.M.Memory.rest c.loop-value.memory)) (state_of (g.M.View.scope c.run_turn.new.memory) (g.M.View.sight c.run_turn.new.memory) (g.M.Memory.rest c.run_turn.new.memory)) c.run_turn.result (ap (λ s. (s.sight).value) frame) c.run_turn.ensures))
+    record {
+      does = (
+          let frame : (state_of (g.M.View.scope c.loop-value.memory) (g.M.View.sight c.loop-value.memory) (g.M.Memory.rest c.loop-value.memory)) ≡ with_memory (memory_in (state_of (g.M.View.scope c.loop-value.memory) (g.M.View.sight c.loop-value.memory) (g.M.Memory.rest c.loop-value.memory))) (state_of (g.M.View.scope c.args.memory.now) (g.M.View.sight c.args.memory.now) (g.M.Memory.rest c.args.memory.now)) = c.loop-value.invariant.remains.frame in
+          same_turns (λ v. sequence (map part c.args.body.now) (bound c.args.var.now v (g.M.View.sight c.args.memory.now).value) (c.args.at.now ++ v ∷ []) 0) (state_of (g.M.View.scope c.args.memory.now) (g.M.View.sight c.args.memory.now) (g.M.Memory.rest c.args.memory.now)) (state_of (g.M.View.scope c.run_turn.new.memory) (g.M.View.sight c.run_turn.new.memory) (g.M.Memory.rest c.run_turn.new.memory)) _ c.args.to _ c.args.from (Err c.in-Err.halt) (to_z-of_z w64 c.args.to c.ranges.to) (to_z-of_z w64 c.args.from c.ranges.from) (stop_turn _ (λ v. sequence (map part c.args.body.now) (bound c.args.var.now v (g.M.View.sight c.args.memory.now).value) (c.args.at.now ++ v ∷ []) 0) (state_of (g.M.View.scope c.args.memory.now) (g.M.View.sight c.args.memory.now) (g.M.Memory.rest c.args.memory.now)) (state_of (g.M.View.scope c.loop-value.memory) (g.M.View.sight c.loop-value.memory) (g.M.Memory.rest c.loop-value.memory)) _ (to_z w64 c.loop-value.value-bits) (state_of (g.M.View.scope c.run_turn.new.memory) (g.M.View.sight c.run_turn.new.memory) (g.M.Memory.rest c.run_turn.new.memory)) c.run_turn.result c.in-Err.halt c.loop-value-test.true c.loop-value.invariant.remains c.in-Err.is (same_body c.args.body.now c.args.var.now (to_z w64 c.loop-value.value-bits) _ (g.M.View.sight c.args.memory.now).value c.args.at.now (state_of (g.M.View.scope c.loop-value.memory) (g.M.View.sight c.loop-value.memory) (g.M.Memory.rest c.loop-value.memory)) (state_of (g.M.View.scope c.run_turn.new.memory) (g.M.View.sight c.run_turn.new.memory) (g.M.Memory.rest c.run_turn.new.memory)) c.run_turn.result (ap (λ s. (s.sight).value) frame) c.run_turn.ensures.does))
+          );
+      told = told_stops _ _ _ c.run_turn.result c.in-Err.halt c.loop-value.invariant.later c.in-Err.is c.run_turn.ensures.told;
+    }
 
 pub run_turn-returns : goal.run_turn-returns
 run_turn-returns g t c =
-    let enters = rw (to_z-of_z w64 c.args.value c.ranges.value) at c.enter.ensures in
-    let here = rw (to_z-of_z w64 c.args.value c.ranges.value) at c.push.ensures in
-    one_turn _ _ c.args.var.now c.args.value (state_of (g.M.View.scope c.args.memory.now) (g.M.View.sight c.args.memory.now) (g.M.Memory.rest c.args.memory.now)) (state_of (g.M.View.scope c.enter.new.self) (g.M.View.sight c.enter.new.self) (g.M.Memory.rest c.enter.new.self)) (state_of (g.M.View.scope c.run_statements-ended.new.memory) (g.M.View.sight c.run_statements-ended.new.memory) (g.M.Memory.rest c.run_statements-ended.new.memory)) (state_of (g.M.View.scope c.leave.new.self) (g.M.View.sight c.leave.new.self) (g.M.Memory.rest c.leave.new.self)) c.run_statements-ended.result enters c.leave.ensures (ap (λ v. sequence (map part c.args.body.now) v c.push.new.self 0) (ap (λ s. (s.sight).value) enters) ∙ ap (λ p. sequence (map part c.args.body.now) (bound c.args.var.now c.args.value (g.M.View.sight c.args.memory.now).value) p 0) here) c.run_statements-ended.ensures
+    record {
+      does = (
+          let enters = rw (to_z-of_z w64 c.args.value c.ranges.value) at c.enter.ensures in
+          let here = rw (to_z-of_z w64 c.args.value c.ranges.value) at c.push.ensures in
+          one_turn _ _ c.args.var.now c.args.value (state_of (g.M.View.scope c.args.memory.now) (g.M.View.sight c.args.memory.now) (g.M.Memory.rest c.args.memory.now)) (state_of (g.M.View.scope c.enter.new.self) (g.M.View.sight c.enter.new.self) (g.M.Memory.rest c.enter.new.self)) (state_of (g.M.View.scope c.run_statements-ended.new.memory) (g.M.View.sight c.run_statements-ended.new.memory) (g.M.Memory.rest c.run_statements-ended.new.memory)) (state_of (g.M.View.scope c.leave.new.self) (g.M.View.sight c.leave.new.self) (g.M.Memory.rest c.leave.new.self)) c.run_statements-ended.result enters c.leave.ensures (ap (λ v. sequence (map part c.args.body.now) v c.push.new.self 0) (ap (λ s. (s.sight).value) enters) ∙ ap (λ p. sequence (map part c.args.body.now) (bound c.args.var.now c.args.value (g.M.View.sight c.args.memory.now).value) p 0) here) c.run_statements-ended.ensures.does
+          );
+      told = c.run_statements-ended.ensures.told;
+    }

@@ -1,6 +1,6 @@
-use Rattle.std.proofs.Common.{rules, ◌≡◌, refl, sym, ap, ◌∙◌, subst, ◌<◌, ◌+◌, ◌∷◌, [], length, drop, get_or, Ok, Err, true, false, arith, List, if◌then◌else◌}
+use Rattle.std.proofs.Common.{◌≡◌, sym, ap, ◌∙◌, subst, ◌<◌, ◌+◌, ◌∷◌, length, drop, get_or, Ok, Err, true, false, arith, List, if◌then◌else◌}
 use Rattle.c_tree.specs.declared.statement.Test.{Test}
-use Rattle.c_meaning.specs.Value.{Answer, ◌>>=◌, holds, all_hold}
+use Rattle.c_meaning.specs.Value.{◌>>=◌, holds, all_hold}
 use Rattle.c_meaning.specs.Scope.{test_fits}
 use Rattle.c_walk.proofs.Lists.{each_of, drop-next, drop-past}
 use Rattle.c_walk.proofs.walk.eval_tests.Goals as goal

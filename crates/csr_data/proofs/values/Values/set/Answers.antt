@@ -10,4 +10,4 @@ returns-clause-arrays c =
     let lt = has_place ts i c.args.name.now c.args.at c.loop-number.invariant.there in
     with_cell_at ts i t _ c.args.name.now c.args.at c.args.value lt c.index_mut.ensures.value
     (found_name ts i c.index.result.now t c.args.name.now _ _ lt c.index.ensures c.index_mut.ensures.value c.bytes.ensures.bytes c.bytes-in-loop-number.ensures.bytes (sym c.ne.ensures ∙ c.loop-number-test.false))
-    (ap (λ (g : Rows). let u : Table = record { name = t.name; kind = t.kind; cells = g } in u) c.set.ensures) c.loop-number.invariant.passed
+    (ap (λ (g : Rows). let u : Table = record { name = t.name; kind = t.kind; dimensions = t.dimensions; cells = g } in u) c.set.ensures) c.loop-number.invariant.passed

@@ -1,0 +1,57 @@
+-- What a command answers by its moves, and what it leaves.
+use Rattle.std.specs.Prelude.{◌≡◌, ◌⊎◌, ⊤, Option, Some, None, Result, Ok, Err}
+use Rattle.chill_base.specs.declared.faults.Stop.{Stop}
+use Rattle.chill_base.specs.declared.faults.Stop.TheVariants.{Refused, NoMemory}
+use Rattle.nest_tree.specs.declared.fault.CommandFault.{CommandFault}
+use Rattle.nest_tree.specs.declared.fault.CommandFault.TheVariants.{Shape, Overflow}
+use Rattle.nest_tree.specs.declared.fault.ShapeWhy.{ShapeWhy}
+use Rattle.int_rows.specs.declared.row.Excess.{Excess}
+use Rattle.nest_core.specs.Making.{after}
+use Rattle.nest_tree.specs.declared.kernel.Kernel.{Kernel}
+use Rattle.nest_tree.specs.declared.moves.Moves.{Moves}
+use Rattle.nest_core.specs.Pieces.{kernel_made}
+
+abbrev pub shape_fault : Stop ShapeWhy → Stop CommandFault
+shape_fault (Refused why) = Refused (Shape why)
+shape_fault NoMemory = NoMemory
+
+-- the new kernel is the one that these moves make of the old one
+abbrev pub IsMade : Kernel → Kernel → Result Moves ShapeWhy → Type 0
+IsMade old new (Ok m) = kernel_made old m ≡ Ok new
+IsMade old new (Err why) = ⊥
+
+-- so, or it is the old one where there is nothing to move
+abbrev pub IsMoved : Kernel → Kernel → Result (Option Moves) ShapeWhy → Type 0
+IsMoved old new (Ok (Some m)) = kernel_made old m ≡ Ok new
+IsMoved old new (Ok None) = new ≡ old
+IsMoved old new (Err why) = ⊥
+
+-- where there are no moves, their shape is what the command answers, unless there is no memory
+abbrev pub Refuses : {A : Type 0} → Result A ShapeWhy → Result (Unit {0}) (Stop CommandFault) → Type 0
+Refuses (Ok m) result = ⊤
+Refuses (Err why) (Ok u) = ⊥
+Refuses (Err why) (Err stop) = (stop ≡ Refused (Shape why)) ⊎ (stop ≡ NoMemory)
+
+-- ---- a command without a test, whose answer is exact
+abbrev pub overflowed : {A : Type 0} → Result A Excess → Result A CommandFault
+overflowed (Ok x) = Ok x
+overflowed (Err excess) = Err (Overflow excess)
+
+abbrev pub shaped : {A : Type 0} → Result A ShapeWhy → Result A CommandFault
+shaped (Ok x) = Ok x
+shaped (Err why) = Err (Shape why)
+
+-- the kernel after the moves, where there are any
+abbrev pub kernel_after : Kernel → Option Moves → Result Kernel CommandFault
+kernel_after k None = Ok k
+kernel_after k (Some m) = overflowed (kernel_made k m)
+
+-- the kernel after an untested command of these moves, or its fault
+abbrev pub untested : Kernel → Result (Option Moves) ShapeWhy → Result Kernel CommandFault
+untested k moves = after (shaped moves) (kernel_after k)
+
+-- ---- unroll
+-- the new kernel is the one that the moves make of the old one
+abbrev pub IsUnrolled : Kernel → Kernel → Option Moves → Type 0
+IsUnrolled old new None = ⊥
+IsUnrolled old new (Some m) = kernel_made old m ≡ Ok new

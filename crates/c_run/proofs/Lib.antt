@@ -1,0 +1,10 @@
+pub mod Tables
+pub mod Grids
+pub mod Stacks
+pub mod Stores
+pub mod Triples
+pub mod Declarations
+pub mod Ends
+pub mod Growing
+pub mod Inspections
+pub mod Extents

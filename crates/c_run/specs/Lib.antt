@@ -1,0 +1,9 @@
+pub mod Numbers
+pub mod Arrays
+pub mod Store
+pub mod Ready
+pub mod Inspects
+pub mod Faults
+pub mod Sections
+pub mod Stages
+pub mod Machines

@@ -1,0 +1,5 @@
+pub mod Writes
+pub mod DataLines
+pub mod Cells
+pub mod Counts
+pub mod Places

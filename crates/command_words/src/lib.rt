@@ -1,0 +1,10 @@
+//! The words of a call, read with `clap`.
+#![tactic(auto)]
+
+mod number;
+mod request;
+#[cfg(test)]
+mod tests;
+mod words;
+
+pub use request::{Request, WordsFault, request_of};

@@ -1,0 +1,7 @@
+pub mod Sums
+pub mod Levels
+pub mod Boxes
+pub mod Reads
+pub mod Narrow
+pub mod Names
+pub mod Copied

@@ -1,0 +1,56 @@
+// The commands of a recipe, and the program of a text.
+ghost use Rattle.std.specs.Prelude.{◌≡◌, Ok, IfOk, IfErr};
+ghost use Rattle.std.specs.List.{list_all};
+ghost use Rattle.kernel_commands.specs.Built.{is_built};
+ghost use Rattle.c_tokens.specs.Pieces.{tokens_of};
+ghost use Rattle.c_grammar.specs.Program.{IsProgram};
+ghost use Rattle.c_judge.specs.Rules.{KeepsRules};
+ghost use Rattle.c_loops.specs.Programs.{program_of};
+ghost use Rattle.recipe_read.specs.Recipe as recipes;
+ghost use Rattle.emission.specs.Emitting.{HasCommands, RecipeCause, ProgramCause};
+ghost use Rattle.emission.specs.Refusing.{IfRefused};
+
+use c_loops::read_program;
+use c_tree::Program;
+use chill_base::{List, Stop};
+use kernel_commands::is_built;
+use outcomes::Refusal;
+use recipe_read::{Command, read_recipe};
+use std::alloc::Global;
+
+fn are_built(commands: &[Command]) -> bool
+    ensures { result ≡ list_all is_built commands.now }
+{
+    commands.iter().all(|command| is_built(command))
+}
+
+/// The commands of a recipe, all of which are built.
+pub fn commands_of(alloc: Global, recipe: &[u8]) -> Result<List<Command>, Stop<Refusal>>
+    ensures ok { IfOk result (λ commands. HasCommands recipe.now commands) }
+    ensures refused { IfErr result (IfRefused (RecipeCause (recipes.recipe recipe.now))) }
+{
+    match read_recipe(alloc, recipe) {
+        Ok(commands) => {
+            if !are_built(commands.as_slice()) {
+                return Err(Stop::Refused(Refusal::NotYet { file: 1 }));
+            }
+            Ok(commands)
+        }
+        Err(Stop::Refused(fault)) => Err(Stop::Refused(Refusal::Recipe(fault))),
+        Err(Stop::NoMemory) => Err(Stop::NoMemory),
+    }
+}
+
+/// The program of a text.
+pub fn read(alloc: Global, text: &[u8]) -> Result<Program, Stop<Refusal>>
+    ensures ok { IfOk result (λ p. program_of text.now ≡ Ok p) }
+    ensures grammar { IfOk result (λ p. IsProgram (tokens_of text.now) p) }
+    ensures rules { IfOk result (λ p. KeepsRules p) }
+    ensures refused { IfErr result (IfRefused (ProgramCause (program_of text.now))) }
+{
+    match read_program(alloc, text) {
+        Ok(program) => Ok(program),
+        Err(Stop::Refused(fault)) => Err(Stop::Refused(Refusal::Program(fault))),
+        Err(Stop::NoMemory) => Err(Stop::NoMemory),
+    }
+}

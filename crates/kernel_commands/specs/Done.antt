@@ -1,0 +1,24 @@
+-- What a command of a recipe has done to a kernel where it is Ok.
+use Rattle.std.specs.Prelude.{◌≡◌, ⊤, Ok}
+use Rattle.nest_tree.specs.declared.kernel.Kernel.{Kernel}
+use Rattle.recipe_read.specs.declared.command.Command.{Command}
+use Rattle.recipe_read.specs.declared.command.Command.TheVariants.{Permute, Tile, Skew, Shift, Fuse, Distribute, Unroll, Datacopy, MakeDense, Compact, CompactAndPad}
+use Rattle.affine_moves.specs.Moves.{permute_moves, tile_moves, skew_moves, shift_moves}
+use Rattle.fuse_distribute.specs.Fusing.{fuse_moves}
+use Rattle.fuse_distribute.specs.Distributing.{distribute_moves}
+use Rattle.unroll.specs.Moves.{unrolled}
+use Rattle.affine_commands.specs.Commands.{IsMade, IsMoved, IsUnrolled, untested}
+
+-- the commands that move instances make the kernel of their moves
+abbrev pub IsDone : Kernel → Kernel → Command → Type 0
+IsDone old new (Permute s order) = IsMoved old new (permute_moves old s order)
+IsDone old new (Tile s level size outer) = IsMade old new (tile_moves old s level size outer)
+IsDone old new (Skew s level coefs) = untested old (skew_moves old s level coefs) ≡ Ok new
+IsDone old new (Shift s level amount) = IsMoved old new (shift_moves old s level amount)
+IsDone old new (Fuse a b level) = IsMade old new (fuse_moves old a b level)
+IsDone old new (Distribute s level) = IsMade old new (distribute_moves old s level)
+IsDone old new (Unroll s level factor) = IsUnrolled old new (unrolled old s level factor)
+IsDone old new (Datacopy s level array copy) = ⊤
+IsDone old new (MakeDense s level) = ⊤
+IsDone old new (Compact s level name) = ⊤
+IsDone old new (CompactAndPad s level kind name) = ⊤

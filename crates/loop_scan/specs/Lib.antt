@@ -1,0 +1,5 @@
+pub mod Groups
+pub mod Asking
+pub mod Heads
+pub mod Nested
+pub mod Choices

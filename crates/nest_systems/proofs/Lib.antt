@@ -1,0 +1,4 @@
+pub mod Choosing
+pub mod Mapping
+pub mod Reading
+pub mod Making

@@ -1,0 +1,18 @@
+use Rattle.std.proofs.Common.{◌+◌, ◌*◌, length}
+use Rattle.nest_systems.specs.Chosen.{IsChosen}
+use Rattle.nest_systems.proofs.choose.+meet.Given as goal
+
+abbrev pub decreases-meet_term : goal.decreases-meet_term
+decreases-meet_term l = 3 * l.deep
+
+abbrev pub decreases-meet_forms : goal.decreases-meet_forms
+decreases-meet_forms l = 3 * l.deep + 2
+
+abbrev pub decreases-meet_form : goal.decreases-meet_form
+decreases-meet_form l = 3 * l.deep + 1
+
+abbrev pub invariant-meet_form-loop-i : goal.invariant-meet_form-loop-i
+invariant-meet_form-loop-i l = IsChosen l.initial.chosen.first (length l.terms) l.chosen
+
+abbrev pub invariant-meet_forms-loop-form : goal.invariant-meet_forms-loop-form
+invariant-meet_forms-loop-form l = IsChosen l.initial.chosen.first (length l.terms) l.chosen

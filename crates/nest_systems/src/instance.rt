@@ -1,0 +1,174 @@
+// A statement's part of a system.
+ghost use Rattle.std.specs.Prelude.{◌≡◌, ◌+◌, ◌<◌, ◌≤◌, ◌^◌, length, IsTrue, IfOk, OnOk};
+ghost use Rattle.std.specs.List.{list_all};
+ghost use Rattle.nest_core.specs.Shapes.{is_term_over};
+ghost use Rattle.nest_systems.specs.Chosen.{is_within, IsChosen};
+ghost use Rattle.nest_systems.specs.Instances.{IsInstance};
+
+use crate::choose::{Chosen, choose_end, choose_more, meet_forms, meet_rows, none_chosen};
+use crate::copy::copy_rows;
+use crate::needs::{find_first_cell, value_counts};
+use crate::range::value_span;
+use crate::span::{high_row, low_row, unit_form};
+use crate::widen::extended_terms;
+use c_tree::Program;
+use chill_base::{List, Name, NoMemory};
+use int_rows::{Aff, Row};
+use nest_tree::{Made, Term};
+use std::alloc::Global;
+
+/// A statement's part of a system. Its forms are over the parameters, its levels and its terms.
+#[derive(Drop)]
+pub struct Instance {
+    pub levels: usize,
+    /// How many variables its forms have.
+    pub vars: usize,
+    /// How many terms the statement has; behind them stand those that only ranges need.
+    pub count: usize,
+    pub terms: List<Term>,
+    pub chosen: Chosen,
+    pub rows: List<Row>,
+    /// The value ranges of the terms that are variables, without those at the very end.
+    pub ranges: List<Row>,
+}
+
+/// The terms that rows and forms hold.
+fn chosen_of(
+    alloc: Global,
+    first: usize,
+    terms: &[Term],
+    extras: usize,
+    rows: &[Row],
+    forms: &[Aff],
+) -> Result<Chosen, NoMemory>
+    requires extras { extras ≤ length terms.now }
+    requires room { first + length terms.now < 2 ^ 64 }
+    ensures { IfOk result (λ c. IsChosen first (length terms.now) c) }
+{
+    let mut chosen = none_chosen(alloc, first, terms.len() - extras, terms.len())?;
+    meet_rows(terms, &mut chosen, rows)?;
+    meet_forms(terms, &mut chosen, terms.len(), forms)?;
+    Ok(chosen)
+}
+
+/// Of the reads `count[0]`, those that are terms are made variables, and the arrays of the others are told.
+fn choose_counts(
+    alloc: Global,
+    terms: &[Term],
+    chosen: &mut Chosen,
+    counts: &[Name],
+) -> Result<List<Name>, NoMemory>
+    requires { IsChosen chosen.old.first (length terms.now) chosen.old }
+    ensures { IsChosen chosen.old.first (length terms.now) chosen.new }
+{
+    let mut missing = List::new(alloc);
+    for name in counts {
+        match find_first_cell(terms, *name) {
+            Some(term) => choose_end(chosen, term)?,
+            None => missing.push(*name)?,
+        }
+    }
+    Ok(missing)
+}
+
+/// Makes so many further terms variables at the very end.
+fn choose_each(chosen: &mut Chosen, more: usize) -> Result<(), NoMemory>
+    requires room { chosen.old.first + length chosen.old.same + more < 2 ^ 64 }
+    requires chosen { IsChosen chosen.old.first (length chosen.old.same) chosen.old }
+    ensures { OnOk result (IsChosen chosen.old.first (length chosen.old.same + more) chosen.new) }
+{
+    for _ in 0..more {
+        choose_more(chosen)?;
+    }
+    Ok(())
+}
+
+fn count_var(first: usize, terms: &[Term], count: Option<Name>) -> Option<usize>
+    requires room { first + length terms.now < 2 ^ 64 }
+{
+    match count {
+        Some(name) => match find_first_cell(terms, name) {
+            Some(term) => Some(first + term),
+            None => None,
+        },
+        None => None,
+    }
+}
+
+/// The value ranges of terms, over the variables of the statement.
+fn value_rows(
+    alloc: Global,
+    head: &Program,
+    made: &[Made],
+    first: usize,
+    terms: &[Term],
+    order: &[usize],
+) -> Result<List<Row>, NoMemory>
+    requires room { first + length terms.now < 2 ^ 64 }
+    requires order { IsTrue (list_all (is_within (length terms.now)) order.now) }
+{
+    let vars = first + terms.len();
+    let mut rows = List::new(alloc);
+    for term in order {
+        if let Some(span) = value_span(alloc, head, made, terms[*term].array)? {
+            let form = unit_form(alloc, first + *term, vars)?;
+            let count = count_var(first, terms, span.count);
+            rows.push(low_row(alloc, &span, &form, vars)?)?;
+            rows.push(high_row(alloc, &span, &form, count, vars)?)?;
+        }
+    }
+    Ok(rows)
+}
+
+/// The part of a system of a statement with these levels, terms and rows. The terms that its rows and forms hold are
+/// variables, those in an argument right before the one that holds them; of the terms the last `extras` are reads
+/// `count[0]` that stand at the very end.
+pub fn make_instance(
+    alloc: Global,
+    head: &Program,
+    made: &[Made],
+    levels: usize,
+    terms: &[Term],
+    extras: usize,
+    rows: &[Row],
+    forms: &[Aff],
+) -> Result<Instance, NoMemory>
+    requires levels { levels ≤ 8 }
+    requires terms { IsTrue (list_all (is_term_over (length head.now.params + levels + length terms.now)) terms.now) }
+    requires extras { extras ≤ length terms.now }
+    ensures instance { IfOk result (λ i. IsInstance (length head.now.params) i) }
+    ensures levels { IfOk result (λ i. i.levels ≡ levels) }
+    ensures count { IfOk result (λ i. i.count ≡ length terms.now) }
+    ensures terms { IfOk result (λ i. length terms.now ≤ length i.terms) }
+{
+    let first = head.params.as_slice().len() + levels;
+    let old = first + terms.len();
+    let mut chosen = chosen_of(alloc, first, terms, extras, rows, forms)?;
+    let counts = value_counts(alloc, head, made, terms, chosen.order.as_slice())?;
+    let missing = choose_counts(alloc, terms, &mut chosen, counts.as_slice())?;
+    let vars = old + missing.as_slice().len();
+    let all = extended_terms(alloc, first, terms, missing.as_slice())?;
+    choose_each(&mut chosen, missing.len())?;
+    let order = chosen.order.as_slice();
+    let ranges = value_rows(alloc, head, made, first, all.as_slice(), order)?;
+    Ok(Instance {
+        levels,
+        vars,
+        count: terms.len(),
+        terms: all,
+        chosen,
+        rows: copy_rows(alloc, rows)?,
+        ranges,
+    })
+}
+
+/// The arrays of the reads that stand at the very end.
+pub fn end_names(alloc: Global, params: usize, instance: &Instance) -> Result<List<Name>, NoMemory>
+    requires { IsInstance params instance.now }
+{
+    let mut names = List::new(alloc);
+    for term in instance.chosen.ends.as_slice() {
+        names.push(instance.terms.as_slice()[*term].array)?;
+    }
+    Ok(names)
+}

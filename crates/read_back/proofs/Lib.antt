@@ -1,0 +1,13 @@
+pub mod Runs
+pub mod Numbers
+pub mod Signs
+pub mod Index
+pub mod Data
+pub mod Lines
+pub mod Statements
+pub mod Skipped
+pub mod Programs
+pub mod Legal
+pub mod Fitting
+pub mod Whole
+pub mod Examples

@@ -1,0 +1,5 @@
+pub mod Examples
+pub mod Names
+pub mod Fits
+pub mod FitStatements
+pub mod FitsProgram

@@ -1,0 +1,5 @@
+pub mod Numbers
+pub mod Forms
+pub mod Bounds
+pub mod Reads
+pub mod Sums

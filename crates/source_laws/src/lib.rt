@@ -1,0 +1,6 @@
+//! What the grammar says of executors.
+#![tactic(auto)]
+
+mod laws;
+
+pub use laws::grammar_has_executor;
