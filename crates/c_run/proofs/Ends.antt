@@ -14,7 +14,7 @@ use Rattle.c_meaning.specs.Executors.{deeds}
 use Rattle.c_meaning.specs.Programs.{is_executor}
 use Rattle.c_meaning.proofs.Executors.{executor_performs}
 use Rattle.c_walk.specs.State.{State, memory_in, with_memory}
-use Rattle.c_walk.specs.Ready.{are_ready}
+use Rattle.c_walk.specs.Ready.{are_ready, has_array}
 use Rattle.c_walk.specs.declared.halt.Halt.{Halt}
 use Rattle.c_walk.specs.declared.halt.Halt.TheVariants.{Fault, NoMemory}
 use Rattle.c_walk.specs.Does.{has_growth, Ends, Does}
@@ -48,6 +48,7 @@ still_ready p s s' h c = record {
   fits = ap (λ s. are_ready p.executor s.scope 0) h ∙ c.fits;
   simple = c.simple;
   few = c.few;
+  arrays = λ k a is. ap (λ s. has_array a.name s.scope) h ∙ c.arrays k a is;
 }
 
 -- a section at its place, which is empty

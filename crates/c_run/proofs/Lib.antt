@@ -8,3 +8,4 @@ pub mod Ends
 pub mod Growing
 pub mod Inspections
 pub mod Extents
+pub mod Signatures

@@ -7,3 +7,4 @@ pub mod Faults
 pub mod Sections
 pub mod Stages
 pub mod Machines
+pub mod Printing

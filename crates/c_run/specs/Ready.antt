@@ -1,9 +1,10 @@
 -- Which programs can be run.
-use Rattle.std.specs.Prelude.{◌≡◌, ◌≤◌, ◌+◌, ◌^◌, ℕ, Bool, true, ◌&&◌, not, List, [], ◌∷◌, map, length, nat_le, if◌then◌else◌, Option, Some, None}
+use Rattle.std.specs.Prelude.{◌≡◌, ◌≤◌, ◌+◌, ◌^◌, ℕ, Bool, true, ◌&&◌, not, List, [], ◌∷◌, map, length, nat_le, if◌then◌else◌, Option, Some, None, slice_get}
 use Rattle.std.specs.List.{list_all}
 use Rattle.c_tree.specs.declared.index.Index.{Index}
 use Rattle.c_tree.specs.declared.program.Kind.{Kind}
 use Rattle.c_tree.specs.declared.program.Kind.TheVariants.{Number, Position}
+use Rattle.c_tree.specs.declared.program.Array.{Array}
 use Rattle.c_tree.specs.declared.program.Program.{Program}
 use Rattle.c_tree.specs.declared.statement.Stmt.{Stmt, fold-Stmt}
 use Rattle.c_tree.specs.declared.statement.Stmt.TheOpen.{Stmt-F, For, If, Assign, Put, Declare, Grow}
@@ -66,12 +67,17 @@ abbrev pub are_inspectable : List Stmt → Scope → Bool
 are_inspectable [] c = true
 are_inspectable (t ∷ ts) c = declaration_fits (declaration_of t) t c && are_inspectable ts (declared_in (declaration_of t) c)
 
+-- each array of the signature is there
+abbrev pub HasArrays : Program → Scope → Type 0
+HasArrays p c = (k : ℕ) (a : Array) → slice_get p.arrays k ≡ Some a → has_array a.name c ≡ true
+
 -- an executor can be run where it stands in no loop, and fits the names
 pub record CanExecute (p : Program) (s : State) : Type 0 where
   pub loops : length s.outer ≡ 0
   pub fits : are_ready p.executor s.scope 0 ≡ true
   pub simple : list_all is_executor p.executor ≡ true
   pub few : widths (map part p.executor) ≤ 2 ^ 33
+  pub arrays : HasArrays p s.scope
 
 -- an inspector can be run, and the executor behind it
 pub record CanInspect (p : Program) (s : State) : Type 0 where
@@ -81,3 +87,4 @@ pub record CanInspect (p : Program) (s : State) : Type 0 where
   pub executor : are_ready p.executor (scope_behind p.inspector s.scope) 0 ≡ true
   pub simple : list_all is_executor p.executor ≡ true
   pub few_behind : widths (map part p.executor) ≤ 2 ^ 33
+  pub arrays : HasArrays p s.scope

@@ -1,5 +1,5 @@
 -- What a program runs on, as its meaning sees it.
-use Rattle.std.specs.Prelude.{ℕ, ℤ, pos, List, reverse, Option, Some, None}
+use Rattle.std.specs.Prelude.{ℕ, ℤ, pos, List, [], reverse, Option, Some, None}
 use Rattle.c_tree.specs.declared.program.Kind.{Kind}
 use Rattle.c_tree.specs.declared.program.Kind.TheVariants.{Number, Position}
 use Rattle.c_meaning.specs.Names.{Name}
@@ -91,3 +91,7 @@ rest_of_store s = rest_in (loops_of s.numbers) (params_of s.numbers) (shape_in (
 
 abbrev pub state_of_store : Store → State
 state_of_store s = state_of (scope_of_store s) (sight_of_store s) (rest_of_store s)
+
+-- what a run begins with: these parameters and arrays, in no loop
+abbrev pub prepared : List Parameter → List Table → State
+prepared ps ts = state_in [] ps (shape_in ts) (cell_at ts)

@@ -1,11 +1,12 @@
 // The arrays of a run.
-ghost use Rattle.std.specs.Prelude.{◌≡◌, ℕ, ◌+◌, ◌*◌, ◌≤◌, ℤ, pos, [], ◌∷◌, ◌++◌, List, length, take, ◌&&◌, if◌then◌else◌, slice_index, None, Some, is_some, IsTrue, MatchOption, OnOk, OnErr, vec_len};
+ghost use Rattle.std.specs.Prelude.{◌≡◌, ℕ, ◌+◌, ◌*◌, ◌≤◌, ℤ, pos, [], ◌∷◌, ◌++◌, List, length, ◌&&◌, if◌then◌else◌, slice_index, None, Some, is_some, IsTrue, MatchOption, OnOk, OnErr, vec_len};
 ghost use Rattle.std.specs.Option.{option_map};
 ghost use Rattle.c_meaning.specs.Names.{Name, same_name, same_numbers};
 ghost use Rattle.c_meaning.specs.Value.{is_inside};
 ghost use Rattle.c_meaning.specs.Run.{is_within, grown};
 ghost use Rattle.csr_data.specs.Values.{array_of};
 ghost use Rattle.c_run.specs.Arrays.{table_of, number_in, shape_in, extents_of_rows, extents_of, cell_at, seen_in, place_in, all_places, places_in, grown_shape};
+ghost use Rattle.c_run.specs.Printing.{cells_in};
 
 use c_tree::Kind;
 use chill_base::{Name, NoMemory};
@@ -13,12 +14,10 @@ use csr_data::Table;
 use raw_store::{Cells, Grid};
 use std::alloc::Global;
 
-/// The arrays of the signature, and behind them the growable ones.
+/// The arrays of the signature, and the growable ones.
 #[derive(Drop)]
 pub(crate) struct Arrays {
     pub(crate) tables: Vec<Table>,
-    // How many are the signature's.
-    pub(crate) given: usize,
 }
 
 // The subscript as a place, where it is inside.
@@ -84,20 +83,17 @@ impl Arrays {
 
     /// The arrays of the signature.
     pub(crate) fn new(tables: Vec<Table>) -> Arrays
-        ensures tables { tables_of result ≡ tables.items }
-        ensures given { result.given ≡ length tables.items }
+        ensures { tables_of result ≡ tables.items }
     {
-        let given = tables.len();
-        Arrays { tables, given }
+        Arrays { tables }
     }
 
-    /// The arrays of the signature.
-    pub(crate) fn into_given(self) -> Vec<Table>
-        ensures { result.items ≡ take self.given (tables_of self) }
+    /// The cells of an array that is there.
+    pub(crate) fn cells(&self, name: &Name) -> &Cells
+        requires { IsTrue (is_some (table_of (tables_of self.now) name.now)) }
+        ensures { result.now ≡ cells_in (table_of (tables_of self.now) name.now) }
     {
-        let Arrays { mut tables, given } = self;
-        tables.truncate(given);
-        tables
+        find_table(self.tables.as_slice(), name).cells.cells()
     }
 
     /// The cells of an array. None exactly where there is no array of that name.
@@ -174,7 +170,6 @@ impl Arrays {
     ) -> Result<(), NoMemory>
         ensures declared { OnOk result (tables_of self.new ≡ tables_of self.old ++ record { name = name; kind = kind; dimensions = dimensions; cells = record { first = 0; deep = slice_index inner 0; wide = slice_index inner 1; cells = [] } } ∷ []) }
         ensures kept { OnErr result (tables_of self.new ≡ tables_of self.old) }
-        ensures given { self.new.given ≡ self.old.given }
     {
         let cells = Grid::from_cells(Cells::new(alloc), 0, inner);
         self.tables.push(Table {

@@ -1,12 +1,12 @@
 // The machine that runs a program.
-ghost use Rattle.std.specs.Prelude.{◌≡◌, [], take, None, Some, Ok, Err, IfOk, MatchOption};
+ghost use Rattle.std.specs.Prelude.{◌≡◌, ◌≤◌, [], ◌++◌, None, Some, Ok, Err, IfOk, OnOk, MatchOption};
 ghost use Rattle.chill_base.specs.Outside.{Rose};
 ghost use Rattle.csr_data.specs.Parameters.{AreSmall};
 ghost use Rattle.c_walk.specs.State.{memory_in};
 ghost use Rattle.csr_data.specs.Values.{array_of};
-ghost use Rattle.c_run.specs.Ready.{CanInspect, CanExecute};
-ghost use Rattle.c_run.specs.Arrays.{shape_in, cell_at};
-ghost use Rattle.c_run.specs.Store.{state_in, state_of_store, tables_of};
+ghost use Rattle.c_run.specs.Ready.{CanInspect, CanExecute, HasArrays};
+ghost use Rattle.c_run.specs.Store.{state_of_store, scope_of_store, tables_of, prepared};
+ghost use Rattle.c_run.specs.Printing.{arrays_text};
 ghost use Rattle.c_run.specs.Sections.{Ended, InspectorEnds, TraceEnds, inspector_run, executor_run};
 ghost use Rattle.c_run.specs.Stages.{IsInspected};
 ghost use Rattle.c_run.specs.declared.machine.Stage.TheVariants.{Prepared, Inspected};
@@ -19,7 +19,7 @@ use crate::sections::{execute_on, inspect_on, trace_on};
 use crate::store::Store;
 use c_tree::Program;
 use chill_base::{Name, NoMemory, Sink, Stop};
-use csr_data::Values;
+use csr_data::{Values, push_array};
 use raw_store::Grid;
 use std::alloc::Global;
 
@@ -62,8 +62,8 @@ impl<'a> Machine<'a> {
         values: Values,
     ) -> Result<Machine<'a>, NoMemory>
         requires small { AreSmall (params_of values) }
-        requires ready { CanInspect program.now (state_in [] (params_of values) (shape_in (arrays_of values)) (cell_at (arrays_of values))) }
-        ensures { IfOk result (λ m. (m.stage ≡ Stage.Prepared) × (m.program.now ≡ program.now) × (state_of_machine m ≡ state_in [] (params_of values) (shape_in (arrays_of values)) (cell_at (arrays_of values)))) }
+        requires ready { CanInspect program.now (prepared (params_of values) (arrays_of values)) }
+        ensures { IfOk result (λ m. (m.stage ≡ Stage.Prepared) × (m.program.now ≡ program.now) × (state_of_machine m ≡ prepared (params_of values) (arrays_of values))) }
     {
         let (params, tables) = values.into_parts();
         let numbers = Numbers::new(alloc, params)?;
@@ -86,6 +86,7 @@ impl<'a> Machine<'a> {
         ensures no_memory { result ≡ Err Stop.NoMemory → self.new.stage ≡ Stage.NoMemory }
         ensures stays { (fault : RunFault) → self.old.stage ≡ Stage.Refused fault → result ≡ Err (Stop.Refused fault) }
         ensures program { self.new.program ≡ self.old.program }
+        ensures values { (state_of_machine self.new).sight.value ≡ (state_of_machine self.old).sight.value }
     {
         match self.stage {
             Stage::Prepared => self.run_inspector(),
@@ -102,6 +103,7 @@ impl<'a> Machine<'a> {
         ensures refused { (fault : RunFault) → result ≡ Err (Stop.Refused fault) → self.new.stage ≡ Stage.Refused fault }
         ensures no_memory { result ≡ Err Stop.NoMemory → self.new.stage ≡ Stage.NoMemory }
         ensures program { self.new.program ≡ self.old.program }
+        ensures values { (state_of_machine self.new).sight.value ≡ (state_of_machine self.old).sight.value }
     {
         match inspect_on(self.alloc, &mut self.store, self.program) {
             Ok(()) => {
@@ -157,6 +159,7 @@ impl<'a> Machine<'a> {
     pub fn execute_traced<S: Sink>(&mut self, sink: &mut S) -> Result<(), TraceFault>
         requires { IsInspected self.old.stage }
         ensures ends { self.old.stage ≡ Stage.Inspected → TraceEnds result (executor_run self.old.program.now (state_of_machine self.old)) (memory_in (state_of_machine self.new)) (S.state sink.old) (S.state sink.new) }
+        ensures later { (S.state sink.old).faults ≤ (S.state sink.new).faults }
         ensures ok { result ≡ Ok tt → self.new.stage ≡ Stage.Inspected }
         ensures refused { (fault : RunFault) → result ≡ Err (TraceFault.Run fault) → self.new.stage ≡ Stage.Refused fault }
         ensures cause { result ≡ Err TraceFault.WriteFault → Rose (S.state sink.old).faults (S.state sink.new).faults }
@@ -174,6 +177,7 @@ impl<'a> Machine<'a> {
     fn trace_executor<S: Sink>(&mut self, sink: &mut S) -> Result<(), TraceFault>
         requires { self.old.stage ≡ Stage.Inspected }
         ensures ends { TraceEnds result (executor_run self.old.program.now (state_of_machine self.old)) (memory_in (state_of_machine self.new)) (S.state sink.old) (S.state sink.new) }
+        ensures later { (S.state sink.old).faults ≤ (S.state sink.new).faults }
         ensures ok { result ≡ Ok tt → self.new.stage ≡ Stage.Inspected }
         ensures refused { (fault : RunFault) → result ≡ Err (TraceFault.Run fault) → self.new.stage ≡ Stage.Refused fault }
         ensures program { self.new.program ≡ self.old.program }
@@ -195,13 +199,22 @@ impl<'a> Machine<'a> {
         self.store.arrays.find(name)
     }
 
-    /// The values of the signature's parameters and arrays.
-    pub fn into_values(self) -> Values
-        ensures params { params_of result ≡ self.entry.store.numbers.params.items }
-        ensures arrays { arrays_of result ≡ take self.entry.store.arrays.given (tables_of self.entry.store.arrays) }
+    /// Appends a line for each array of the signature, with its cells as they are now.
+    pub fn push_arrays(&self, text: &mut Vec<u8>) -> Result<(), NoMemory>
+        requires { self.now.stage ≡ Stage.Inspected }
+        ensures { OnOk result (text.new.items ≡ text.old.items ++ arrays_text (tables_of self.now.store.arrays) self.now.program.now.arrays) }
     {
-        let Machine { store, .. } = self;
-        let Store { numbers, arrays } = store;
-        Values::from_parts(numbers.into_params(), arrays.into_given())
+        push_all(text, &self.store, self.program)
     }
+}
+
+// Appends a line for each array of the signature.
+fn push_all(text: &mut Vec<u8>, store: &Store, program: &Program) -> Result<(), NoMemory>
+    requires { HasArrays program.now (scope_of_store store.now) }
+    ensures { OnOk result (text.new.items ≡ text.old.items ++ arrays_text (tables_of store.now.arrays) program.now.arrays) }
+{
+    for array in program.arrays.as_slice() {
+        push_array(text, &array.name, store.arrays.cells(&array.name))?;
+    }
+    Ok(())
 }

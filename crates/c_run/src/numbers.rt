@@ -40,12 +40,6 @@ impl Numbers {
         })
     }
 
-    pub(crate) fn into_params(self) -> Vec<Parameter>
-        ensures { result.items ≡ params_of self }
-    {
-        self.params
-    }
-
     /// The value of a loop variable, or else of a parameter.
     pub(crate) fn get(&self, name: &Name) -> i64
         requires { IsTrue (is_number (loops_of self.now) (params_of self.now) name.now) }

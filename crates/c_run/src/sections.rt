@@ -1,5 +1,5 @@
 // The two sections of a program, run on a store.
-ghost use Rattle.std.specs.Prelude.{◌≡◌, Ok};
+ghost use Rattle.std.specs.Prelude.{◌≡◌, ◌≤◌, Ok};
 ghost use Rattle.c_walk.specs.State.{memory_in};
 ghost use Rattle.c_run.specs.Ready.{CanInspect, CanExecute};
 ghost use Rattle.c_run.specs.Store.{state_of_store};
@@ -21,6 +21,7 @@ pub(crate) fn inspect_on(
 ) -> Result<(), Stop<RunFault>>
     requires { CanInspect program.now (state_of_store store.old) }
     ensures ends { InspectorEnds result (inspector_run program.now (state_of_store store.old)) (memory_in (state_of_store store.new)) }
+    ensures values { (state_of_store store.new).sight.value ≡ (state_of_store store.old).sight.value }
     ensures ready { result ≡ Ok tt → CanExecute program.now (state_of_store store.new) }
 {
     match inspect(alloc, store, &program.inspector) {
@@ -59,6 +60,7 @@ pub(crate) fn trace_on<S: Sink>(
 ) -> Result<(), TraceFault>
     requires { CanExecute program.now (state_of_store store.old) }
     ensures ends { TraceEnds result (executor_run program.now (state_of_store store.old)) (memory_in (state_of_store store.new)) (S.state sink.old) (S.state sink.new) }
+    ensures later { (S.state sink.old).faults ≤ (S.state sink.new).faults }
     ensures ready { CanExecute program.now (state_of_store store.new) }
 {
     match run_statements(store, sink, &program.executor, &Place::new(), 0) {

@@ -1,5 +1,9 @@
 pub mod Extents
 pub mod Dues
+pub mod Steps
+pub mod AtHand
+pub mod Bytes
+pub mod Told
 pub mod Small
 pub mod Cells
 pub mod Induction

@@ -2,6 +2,7 @@ pub mod Parameters
 pub mod Extents
 pub mod Signature
 pub mod Values
+pub mod Headings
 pub mod Shape
 pub mod Text
 pub mod Lines
@@ -9,3 +10,4 @@ pub mod Matrices
 pub mod Wanted
 pub mod Reading
 pub mod Divisors
+pub mod Printed

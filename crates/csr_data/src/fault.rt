@@ -1,4 +1,6 @@
 // Why a data text is refused.
+ghost use Rattle.std.specs.Prelude.{◌≡◌};
+
 use chill_base::{Name, Stop};
 
 /// What the arrays of a matrix in CSR form break.
@@ -53,7 +55,11 @@ pub(crate) enum Halt {
 }
 
 impl Halt {
-    pub(crate) fn stop(&self) -> Stop<ValuesFault> {
+    ghost use Rattle.csr_data.specs.Reading.{stop_of};
+
+    pub(crate) fn stop(&self) -> Stop<ValuesFault>
+        ensures { result ≡ stop_of self.now }
+    {
         match self {
             Halt::Fault(fault) => Stop::Refused(*fault),
             Halt::NoMemory => Stop::NoMemory,

@@ -16,6 +16,6 @@ mod values;
 pub use fault::{CsrWhy, ValuesFault};
 pub use generator::generate;
 pub use lookup::parameter_value;
-pub use print::print_values;
+pub use print::{print_values, push_array, push_parameters};
 pub use reader::DataReader;
 pub use values::{Parameter, Table, Values};

@@ -1,10 +1,11 @@
 // What a line is about, and what it gives.
-ghost use Rattle.std.specs.Prelude.{◌≡◌, ◌≤◌, ◌^◌, ◌++◌, ◌∷◌, [], suc, drop, take, length, MatchOption, OnOk, OnErr, None};
+ghost use Rattle.std.specs.Prelude.{◌≡◌, ◌≤◌, ◌^◌, ◌++◌, ◌∷◌, [], ℕ, List, suc, drop, take, length, MatchOption, OnOk, OnErr, None};
 ghost use Rattle.csr_data.specs.Extents.{Stores};
-ghost use Rattle.csr_data.specs.Lines.{dues, new_names, shape_of_due, shape_at};
+ghost use Rattle.csr_data.specs.Lines.{dues, new_names, shape_of_due, shape_at, judged, parameter, array as array_due};
+ghost use Rattle.csr_data.specs.Reading.{Says};
 ghost use Rattle.csr_data.specs.Parameters.{names_of, AreSmall};
-ghost use Rattle.csr_data.specs.Wanted.{due_of};
-ghost use Rattle.csr_data.specs.Signature.{IsSignature};
+ghost use Rattle.csr_data.specs.Wanted.{due_of, given_of};
+ghost use Rattle.csr_data.specs.Signature.{IsSignature, extents_of};
 
 use crate::fault::{Halt, ValuesFault};
 use crate::parts::Wanted;
@@ -57,6 +58,7 @@ fn add_parameter(
     cells: &Cells,
 ) -> Result<(), Halt>
     requires { found ≤ 1 → length cells.now ≡ found }
+    ensures says { (arrays : List Table) → Says result (judged number (parameter name) (record { params = params.old.items; arrays = arrays }) found cells.now []) (record { params = params.new.items; arrays = arrays }) }
     ensures names { OnOk result (names_of params.new.items ≡ names_of params.old.items ++ name ∷ []) }
     ensures small { OnOk result (AreSmall params.old.items → AreSmall params.new.items) }
     ensures kept { OnErr result (params.new.items ≡ params.old.items) }
@@ -87,6 +89,7 @@ fn add_array(
 ) -> Result<(), Halt>
     requires few { found ≤ 2 ^ 62 }
     requires stored { Stores shape.now found cells }
+    ensures says { (number : ℕ) (params : List Parameter) → shape.now ≡ extents_of array.now params → Says result (judged number (array_due array.now) (record { params = params; arrays = arrays.old.items }) found cells []) (record { params = params; arrays = arrays.new.items }) }
     ensures kept { OnErr result (arrays.new.items ≡ arrays.old.items) }
 {
     if let Some(value) = shape.negative() {
@@ -128,6 +131,7 @@ pub(crate) fn add_line(
     requires few { found ≤ 2 ^ 62 }
     requires shape { shape.now ≡ shape_of_due (due_of wanted.now) values.old.params.items }
     requires stored { Stores shape.now found cells }
+    ensures says { Says result (judged number (due_of wanted.now) (given_of values.old) found cells []) (given_of values.new) }
     ensures names { OnOk result (names_of values.new.params.items ≡ names_of values.old.params.items ++ new_names (due_of wanted.now)) }
     ensures small { OnOk result (AreSmall values.old.params.items → AreSmall values.new.params.items) }
     ensures kept { OnErr result (values.new.params.items ≡ values.old.params.items) }

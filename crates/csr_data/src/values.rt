@@ -50,6 +50,13 @@ impl Values {
         (params, arrays)
     }
 
+    /// The parameters, in the signature's order.
+    pub fn params(&self) -> &[Parameter]
+        ensures { result.now ≡ params_of self.now }
+    {
+        self.params.as_slice()
+    }
+
     /// The value of a parameter. None exactly where there is no parameter of that name.
     pub fn param(&self, name: &Name) -> Option<u64>
         ensures { result ≡ param_of (params_of self.now) name.now }

@@ -1,12 +1,13 @@
 // The values of a data text.
-ghost use Rattle.std.specs.Prelude.{◌≤◌, ◌^◌, length, IfOk};
+ghost use Rattle.std.specs.Prelude.{◌≡◌, ◌≤◌, ◌^◌, ℕ, List, [], length};
 ghost use Rattle.c_judge.specs.Rules.{KeepsRules};
 ghost use Rattle.csr_data.specs.Divisors.{ExtentsHaveDivisors};
-ghost use Rattle.csr_data.specs.Parameters.{AreSmall};
-ghost use Rattle.csr_data.specs.Values.{params_of};
+ghost use Rattle.csr_data.specs.Lines.{dues, says_from};
+ghost use Rattle.csr_data.specs.Reading.{told};
+ghost use Rattle.program_run.specs.Texts.{TellsValues};
 
 use c_tree::Program;
-use chill_base::Stop;
+use chill_base::{NoMemory, Stop};
 use csr_data::{DataReader, Values, ValuesFault};
 use std::alloc::Global;
 
@@ -15,12 +16,26 @@ pub fn values_of(alloc: Global, program: &Program, text: &[u8]) -> Result<Values
     requires rules { KeepsRules program.now }
     requires divisors { ExtentsHaveDivisors program.now }
     requires few { length text.now ≤ 2 ^ 62 }
-    ensures { IfOk result (λ values. AreSmall (params_of values)) }
+    ensures { TellsValues program.now text.now result }
 {
-    let mut reader = match DataReader::new(alloc, program) {
-        Ok(reader) => reader,
-        Err(_) => return Err(Stop::NoMemory),
-    };
+    match DataReader::new(alloc, program) {
+        Ok(reader) => read_all(program, reader, text),
+        Err(NoMemory) => Err(Stop::NoMemory),
+    }
+}
+
+// The values of a text by a new reader.
+fn read_all(
+    _program: &Program,
+    mut reader: DataReader,
+    text: &[u8],
+) -> Result<Values, Stop<ValuesFault>>
+    requires few { length text.now ≤ 2 ^ 62 }
+    requires fresh { reader.taken ≡ 0 }
+    requires program { reader.held.program.now ≡ _program.now }
+    requires told { (more : List ℕ) → told reader.halt reader.held more ≡ says_from 1 (dues _program.now) (record { params = []; arrays = [] }) more }
+    ensures { TellsValues _program.now text.now result }
+{
     match reader.feed(text) {
         Ok(()) => reader.finish(),
         Err(stop) => Err(stop),

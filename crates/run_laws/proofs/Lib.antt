@@ -1,0 +1,14 @@
+pub mod Choices
+pub mod Found
+pub mod Agreement
+pub mod Declared
+pub mod Divisors
+pub mod Indexes
+pub mod Values
+pub mod Readiness
+pub mod Widths
+pub mod Executors
+pub mod Stays
+pub mod Statements
+pub mod Items
+pub mod Programs

@@ -1,0 +1,6 @@
+//! What the grammar and the rules say of runs.
+#![tactic(auto)]
+
+mod laws;
+
+pub use laws::{programs_can_run, programs_have_divisors};
