@@ -1,0 +1,4 @@
+pub mod Tests
+pub mod Factors
+pub mod Mapping
+pub mod Padding
