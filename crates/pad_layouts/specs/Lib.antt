@@ -4,3 +4,4 @@ pub mod Forms
 pub mod Moved
 pub mod Parts
 pub mod Kinds
+pub mod Plans

@@ -23,11 +23,26 @@ abbrev pub picked : List ℤ → Option ℕ → ℤ
 picked cs (Some v) = slice_index_or cs v (pos 0)
 picked cs None = pos 0
 
+-- the old variables that new ones stand for are variables of the form
+abbrev pub suits : List (Option ℕ) → Aff → Bool
+suits picks f = list_all (is_pick (length f.coefs)) picks
+
 unfoldable pub moved_form : List (Option ℕ) → Aff → Aff
 moved_form picks f = record { coefs = map (picked f.coefs) picks; constant = f.constant }
 
 abbrev pub moved_access : List (Option ℕ) → Access → Access
 moved_access picks a = record { array = a.array; at = map (moved_form picks) a.at }
+
+-- and so of each subscript of a right side
+abbrev pub suits_layer : List (Option ℕ) → Body-F Bool → Bool
+suits_layer picks (Const-F n) = true
+suits_layer picks (At-F a) = list_all (suits picks) a.at
+suits_layer picks (Plus-F a b) = a && b
+suits_layer picks (Minus-F a b) = a && b
+suits_layer picks (Times-F a b) = a && b
+
+unfoldable pub suits_body : List (Option ℕ) → Body → Bool
+suits_body picks = fold-Body Bool (suits_layer picks)
 
 -- ---- right sides: the cell of the layout stands for a value of the matrix
 abbrev pub padded_access : List (Option ℕ) → List ℕ → Access → Access → Access

@@ -30,10 +30,6 @@ abbrev pub pointer_rows : ℕ → ℕ → ℕ → ℕ → List KernelRow
 pointer_rows vars own level begin =
     bound own (two vars level (pos 1) begin (negsuc 0) (pos 0)) ∷ bound own (two vars (begin + 1) (pos 1) level (negsuc 0) (negsuc 0)) ∷ []
 
--- the cells of the statement are over its variables
-abbrev pub has_cells : ℕ → Nest → Bool
-has_cells params n = is_access_over (vars_of params n) n.target && is_body_over (vars_of params n) n.value
-
 -- the statement of these parts in the place of an old one
 unfoldable pub padded_nest : List ℕ → Nest → Parts → Nest
 padded_nest value n p = record {

@@ -66,6 +66,7 @@ fn push_group_rows(
 }
 
 /// The rows: those kept, those of the kept value's place, those of the row in its group, those of the column in its.
+#[tactic(auto, unfolding(crate::specs::Kinds::block_rows))]
 fn block_rows(
     alloc: Global,
     params: usize,
@@ -79,11 +80,8 @@ fn block_rows(
     requires room { params + 7 < 2 ^ 64 }
     ensures { IfOk result (λ rs. rs ≡ spec.block_rows params sides picks.now nest.now.rows) }
 {
-    let old = params + nest.levels.len() + nest.terms.len();
-    let all = nest.rows.as_slice();
-    let mut rows = kept_rows(alloc, params, 4, params + 4, picks, all, old, 5)?;
-    let vars = params + 7;
-    let kept = params + 4;
+    let (vars, kept) = (params + 7, params + 4);
+    let mut rows = kept_rows(alloc, params, 4, params + 4, picks, nest)?;
     push_pointer_rows(alloc, &mut rows, vars, 2, params + 1, params + 5)?;
     let row = row_var(params, sides);
     push_group_rows(alloc, &mut rows, vars, row_level(sides), row, params, sides.rows)?;
@@ -93,6 +91,7 @@ fn block_rows(
 }
 
 /// The cell of an entry: its block, its row and its column in the block.
+#[tactic(auto, unfolding(crate::specs::Kinds::block_cell))]
 fn block_cell(
     alloc: Global,
     params: usize,
@@ -115,6 +114,7 @@ fn block_cell(
 
 /// The parts of a statement over blocks: its levels are the group of rows, the place of a kept value, row and column in
 /// their order.
+#[tactic(auto, unfolding(crate::specs::Kinds::block_parts))]
 pub fn block_parts(
     alloc: Global,
     params: usize,

@@ -1,7 +1,6 @@
 // The right side over the new variables, with a cell of the layout for the entry's value.
 ghost use Rattle.std.specs.Prelude.{◌≡◌, IfOk, IsTrue};
 ghost use Rattle.std.specs.List.{list_all};
-ghost use Rattle.nest_core.specs.Shapes.{is_access_over, is_body_over};
 ghost use Rattle.pad_layouts.specs.Moved as spec;
 
 use crate::column::is_name;
@@ -44,20 +43,18 @@ fn copy_access(alloc: Global, access: &Access) -> Result<Access, NoMemory>
 /// The cell of the layout in the place of a value of the matrix; any other cell over the new variables.
 fn padded_access(
     alloc: Global,
-    vars: usize,
     picks: &[Option<usize>],
     value: Name,
     cell: &Access,
     access: &Access,
 ) -> Result<Access, NoMemory>
-    requires picks { IsTrue (list_all (spec.is_pick vars) picks.now) }
-    requires width { IsTrue (is_access_over vars access.now) }
+    requires { IsTrue (list_all (spec.suits picks.now) access.now.at) }
     ensures { IfOk result (λ a. a ≡ spec.padded_access picks.now value cell.now access.now) }
 {
     if is_name(access.array, value) {
         copy_access(alloc, cell)
     } else {
-        moved_access(alloc, vars, picks, access)
+        moved_access(alloc, picks, access)
     }
 }
 
@@ -65,31 +62,29 @@ fn padded_access(
 #[cycle(body)]
 pub fn padded_body(
     alloc: Global,
-    vars: usize,
     picks: &[Option<usize>],
     value: Name,
     cell: &Access,
     body: &Body,
 ) -> Result<Body, NoMemory>
-    requires picks { IsTrue (list_all (spec.is_pick vars) picks.now) }
-    requires width { IsTrue (is_body_over vars body.now) }
+    requires { IsTrue (spec.suits_body picks.now body.now) }
     ensures { IfOk result (λ b. b ≡ spec.padded_body picks.now value cell.now body.now) }
 {
     match body {
         Body::Const(n) => Ok(Body::Const(*n)),
         Body::At(access) => Ok(Body::At(padded_access(
-            alloc, vars, picks, value, cell, access,
+            alloc, picks, value, cell, access,
         )?)),
         Body::Plus(a, b) => {
-            let (x, y) = padded_two(alloc, vars, picks, value, cell, a.get(), b.get())?;
+            let (x, y) = padded_two(alloc, picks, value, cell, a.get(), b.get())?;
             Ok(Body::Plus(x, y))
         }
         Body::Minus(a, b) => {
-            let (x, y) = padded_two(alloc, vars, picks, value, cell, a.get(), b.get())?;
+            let (x, y) = padded_two(alloc, picks, value, cell, a.get(), b.get())?;
             Ok(Body::Minus(x, y))
         }
         Body::Times(a, b) => {
-            let (x, y) = padded_two(alloc, vars, picks, value, cell, a.get(), b.get())?;
+            let (x, y) = padded_two(alloc, picks, value, cell, a.get(), b.get())?;
             Ok(Body::Times(x, y))
         }
     }
@@ -99,19 +94,17 @@ pub fn padded_body(
 #[cycle(body)]
 fn padded_two(
     alloc: Global,
-    vars: usize,
     picks: &[Option<usize>],
     value: Name,
     cell: &Access,
     a: &Body,
     b: &Body,
 ) -> Result<(Boxed<Body>, Boxed<Body>), NoMemory>
-    requires picks { IsTrue (list_all (spec.is_pick vars) picks.now) }
-    requires first { IsTrue (is_body_over vars a.now) }
-    requires second { IsTrue (is_body_over vars b.now) }
+    requires first { IsTrue (spec.suits_body picks.now a.now) }
+    requires second { IsTrue (spec.suits_body picks.now b.now) }
     ensures { IfOk result (λ p. p ≡ (spec.padded_body picks.now value cell.now a.now, spec.padded_body picks.now value cell.now b.now)) }
 {
-    let x = padded_body(alloc, vars, picks, value, cell, a)?;
-    let y = padded_body(alloc, vars, picks, value, cell, b)?;
+    let x = padded_body(alloc, picks, value, cell, a)?;
+    let y = padded_body(alloc, picks, value, cell, b)?;
     Ok((Boxed::new(alloc, x)?, Boxed::new(alloc, y)?))
 }

@@ -11,6 +11,7 @@ use nest_tree::{Access, KernelRow};
 use std::alloc::Global;
 
 /// The named parameter less 1, the row, and perhaps the kept value.
+#[tactic(auto, unfolding(crate::specs::Kinds::below))]
 fn below(
     alloc: Global,
     params: &[Name],
@@ -27,6 +28,7 @@ fn below(
 }
 
 /// The rows of the row and of the column, which is the row and the kept value.
+#[tactic(auto, unfolding(crate::specs::Kinds::square_rows))]
 fn square_rows(
     alloc: Global,
     params: &[Name],
@@ -45,6 +47,7 @@ fn square_rows(
 }
 
 /// The cell of an entry: its diagonal, and its row.
+#[tactic(auto, unfolding(crate::specs::Kinds::diag_cell))]
 fn diag_cell(alloc: Global, params: usize, layout: Name) -> Result<Access, NoMemory>
     requires { params + 5 < 2 ^ 64 }
     ensures { IfOk result (λ a. a ≡ spec.diag_cell params layout) }
@@ -58,6 +61,7 @@ fn diag_cell(alloc: Global, params: usize, layout: Name) -> Result<Access, NoMem
 }
 
 /// The parts of a statement over diagonals: its levels are the place of a kept value, and the row.
+#[tactic(auto, unfolding(crate::specs::Kinds::diag_parts))]
 pub fn diag_parts(
     alloc: Global,
     params: &[Name],

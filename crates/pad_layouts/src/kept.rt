@@ -2,9 +2,8 @@
 ghost use Rattle.std.specs.Prelude.{◌≡◌, ◌≤◌, ◌<◌, ◌+◌, ◌^◌, suc, pos, cond, length, IfOk, IsTrue, OnOk};
 ghost use Rattle.std.specs.Ordering.{int_eq};
 ghost use Rattle.std.specs.List.{list_all, list_any};
-ghost use Rattle.nest_core.specs.Forms.{has_vars};
 ghost use Rattle.nest_core.specs.Pieces.{last_held};
-ghost use Rattle.nest_core.specs.Shapes.{is_row_over};
+ghost use Rattle.nest_core.specs.Shapes.{vars_of, is_row_over};
 ghost use Rattle.pad_layouts.specs.Moved as spec;
 
 use crate::forms::push_bound;
@@ -12,7 +11,7 @@ use crate::moved::moved_form;
 use crate::product::is_plain;
 use chill_base::{List, NoMemory};
 use int_rows::{Aff, Row};
-use nest_tree::KernelRow;
+use nest_tree::{KernelRow, Nest};
 use std::alloc::Global;
 
 /// The next place where the number isn't 0, and otherwise the one found before.
@@ -71,24 +70,22 @@ fn moved_row(
     })
 }
 
-/// The rows that name no variable from `entry` on, over the new variables.
+/// The statement's rows that name no variable from `entry` on, over the new variables.
 pub fn kept_rows(
     alloc: Global,
     params: usize,
     depth: usize,
     entry: usize,
     picks: &[Option<usize>],
-    rows: &[KernelRow],
-    vars: usize,
-    levels: usize,
+    nest: &Nest,
 ) -> Result<List<KernelRow>, NoMemory>
-    requires picks { IsTrue (list_all (spec.is_pick vars) picks.now) }
-    requires depth { params + depth ≤ vars }
-    requires rows { IsTrue (list_all (is_row_over vars levels) rows.now) }
-    ensures { IfOk result (λ rs. rs ≡ spec.kept_rows params depth entry picks.now rows.now) }
+    requires picks { IsTrue (list_all (spec.is_pick (vars_of params nest.now)) picks.now) }
+    requires depth { depth ≤ length nest.now.levels }
+    requires rows { IsTrue (list_all (is_row_over (vars_of params nest.now) (length nest.now.levels)) nest.now.rows) }
+    ensures { IfOk result (λ rs. rs ≡ spec.kept_rows params depth entry picks.now nest.now.rows) }
 {
     let mut kept = List::new(alloc);
-    for row in rows {
+    for row in nest.rows.as_slice() {
         if is_plain(entry, None, &row.row.form) {
             kept.push(moved_row(alloc, params, depth, picks, row)?)?;
         }

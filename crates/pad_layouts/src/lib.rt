@@ -10,7 +10,14 @@ mod kept;
 mod layout;
 mod moved;
 mod parts;
+mod plan;
 mod product;
 mod rows;
 
-pub use layout::{Layout, layout_of};
+pub use block::{Sides, block_parts};
+pub use column::is_name;
+pub use diag::diag_parts;
+pub use layout::{Layout, layout_of, level_of};
+pub use parts::{KeptArrays, Parts, RowArrays, padded_nest};
+pub use plan::{Plan, plan_of};
+pub use rows::row_parts;

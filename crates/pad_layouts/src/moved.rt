@@ -1,8 +1,6 @@
 // What cells become where each new variable has the number of the old one that it stands for.
 ghost use Rattle.std.specs.Prelude.{◌≡◌, map, length, IfOk, IsTrue};
 ghost use Rattle.std.specs.List.{list_all};
-ghost use Rattle.nest_core.specs.Forms.{has_vars};
-ghost use Rattle.nest_core.specs.Shapes.{is_access_over};
 ghost use Rattle.pad_layouts.specs.Moved as spec;
 
 use chill_base::{List, NoMemory};
@@ -39,7 +37,7 @@ fn picked_each(
 /// The form over the new variables. What it names, new variables stand for.
 #[tactic(auto, unfolding(crate::specs::Moved::moved_form))]
 pub fn moved_form(alloc: Global, picks: &[Option<usize>], form: &Aff) -> Result<Aff, NoMemory>
-    requires { IsTrue (list_all (spec.is_pick (length form.now.coefs)) picks.now) }
+    requires { IsTrue (spec.suits picks.now form.now) }
     ensures { IfOk result (λ f. f ≡ spec.moved_form picks.now form.now) }
 {
     Ok(Aff {
@@ -50,12 +48,10 @@ pub fn moved_form(alloc: Global, picks: &[Option<usize>], form: &Aff) -> Result<
 
 fn moved_forms(
     alloc: Global,
-    vars: usize,
     picks: &[Option<usize>],
     forms: &[Aff],
 ) -> Result<List<Aff>, NoMemory>
-    requires picks { IsTrue (list_all (spec.is_pick vars) picks.now) }
-    requires width { IsTrue (list_all (has_vars vars) forms.now) }
+    requires { IsTrue (list_all (spec.suits picks.now) forms.now) }
     ensures { IfOk result (λ fs. fs ≡ map (spec.moved_form picks.now) forms.now) }
 {
     let mut new = List::new(alloc);
@@ -68,16 +64,14 @@ fn moved_forms(
 /// The cell over the new variables.
 pub fn moved_access(
     alloc: Global,
-    vars: usize,
     picks: &[Option<usize>],
     access: &Access,
 ) -> Result<Access, NoMemory>
-    requires picks { IsTrue (list_all (spec.is_pick vars) picks.now) }
-    requires width { IsTrue (is_access_over vars access.now) }
+    requires { IsTrue (list_all (spec.suits picks.now) access.now.at) }
     ensures { IfOk result (λ a. a ≡ spec.moved_access picks.now access.now) }
 {
     Ok(Access {
         array: access.array,
-        at: moved_forms(alloc, vars, picks, access.at.as_slice())?,
+        at: moved_forms(alloc, picks, access.at.as_slice())?,
     })
 }

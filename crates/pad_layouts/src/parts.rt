@@ -2,13 +2,11 @@
 ghost use Rattle.std.specs.Prelude.{◌≡◌, ◌++◌, ◌∷◌, [], ◌<◌, ◌≤◌, suc, Some, map, length, replicate, IfOk, IsTrue, OnOk};
 ghost use Rattle.std.specs.List.{list_all, range_with_len};
 ghost use Rattle.nest_tree.specs.declared.form.Form.TheVariants.{Other};
-ghost use Rattle.nest_core.specs.Shapes.{vars_of, IsShapedNest};
-ghost use Rattle.pad_layouts.specs.Moved.{is_pick};
+ghost use Rattle.pad_layouts.specs.Moved.{suits, suits_body};
 ghost use Rattle.pad_layouts.specs.Parts as spec;
 
 use crate::body::padded_body;
 use crate::forms::{list_of_one, one, push_bound, two};
-use crate::kept::push_missing;
 use crate::moved::moved_access;
 use chill_base::{List, Name, NoMemory};
 use int_rows::Aff;
@@ -128,19 +126,18 @@ fn inner_positions(alloc: Global, depth: usize, first: usize) -> Result<List<usi
 }
 
 /// The statement of these parts in the place of an old one.
+#[tactic(auto, unfolding(crate::specs::Parts::padded_nest))]
 pub fn padded_nest(
     alloc: Global,
-    params: usize,
     value: Name,
     nest: &Nest,
     parts: Parts,
 ) -> Result<Nest, NoMemory>
-    requires target { IsTrue (spec.has_cells params nest.now) }
-    requires picks { IsTrue (list_all (is_pick (vars_of params nest.now)) parts.picks) }
+    requires target { IsTrue (list_all (suits parts.picks) nest.now.target.at) }
+    requires value { IsTrue (suits_body parts.picks nest.now.value) }
     requires positions { 0 < length nest.now.positions }
     ensures { IfOk result (λ n. n ≡ spec.padded_nest value nest.now parts) }
 {
-    let vars = params + nest.levels.len() + nest.terms.len();
     let Parts {
         depth,
         picks,
@@ -148,11 +145,12 @@ pub fn padded_nest(
         rows,
         cell,
     } = parts;
-    let target = moved_access(alloc, vars, picks.as_slice(), &nest.target)?;
-    let value = padded_body(alloc, vars, picks.as_slice(), value, &cell, &nest.value)?;
+    let target = moved_access(alloc, picks.as_slice(), &nest.target)?;
+    let value = padded_body(alloc, picks.as_slice(), value, &cell, &nest.value)?;
+    let first = nest.positions.as_slice()[0];
     Ok(Nest {
         levels: other_levels(alloc, depth)?,
-        positions: inner_positions(alloc, depth, nest.positions.as_slice()[0])?,
+        positions: inner_positions(alloc, depth, first)?,
         terms,
         rows,
         target,

@@ -12,7 +12,7 @@ use nest_tree::{Access, KernelRow, Nest, Term};
 use std::alloc::Global;
 
 /// How many variables there are: the read of a column is one where the statement has one.
-fn vars_of(params: usize, column: Option<usize>) -> usize
+fn row_vars(params: usize, column: Option<usize>) -> usize
     requires { params + 4 < 2 ^ 64 }
     ensures { result ≡ spec.row_vars params column }
 {
@@ -72,7 +72,7 @@ fn row_terms(
     requires { params + 4 < 2 ^ 64 }
     ensures { IfOk result (λ ts. ts ≡ spec.row_terms params arrays.now column) }
 {
-    let vars = vars_of(params, column);
+    let vars = row_vars(params, column);
     let mut terms = List::new(alloc);
     terms.push(read(alloc, arrays.width, fixed(alloc, vars, 0)?)?)?;
     match column {
@@ -85,6 +85,7 @@ fn row_terms(
 }
 
 /// The rows: those kept, and those of the place in a row.
+#[tactic(auto, unfolding(crate::specs::Kinds::row_rows))]
 fn row_rows(
     alloc: Global,
     params: usize,
@@ -98,10 +99,8 @@ fn row_rows(
     requires room { params + 4 < 2 ^ 64 }
     ensures { IfOk result (λ rs. rs ≡ spec.row_rows params column picks.now nest.now.rows) }
 {
-    let old = params + nest.levels.len() + nest.terms.len();
-    let all = nest.rows.as_slice();
-    let mut rows = kept_rows(alloc, params, 2, params + 1, picks, all, old, 2)?;
-    let vars = vars_of(params, column);
+    let vars = row_vars(params, column);
+    let mut rows = kept_rows(alloc, params, 2, params + 1, picks, nest)?;
     push_bound(&mut rows, 2, one(alloc, vars, params + 1, 0)?)?;
     push_bound(&mut rows, 2, two(alloc, vars, params + 2, 1, params + 1, -1, -1)?)?;
     Ok(rows)
@@ -109,6 +108,7 @@ fn row_rows(
 
 /// The parts of a statement over padded rows: its levels are the row and the place in it. `column` is the variable of the
 /// read of an entry's column, where the statement has it.
+#[tactic(auto, unfolding(crate::specs::Kinds::row_parts))]
 pub fn row_parts(
     alloc: Global,
     params: usize,
@@ -129,6 +129,6 @@ pub fn row_parts(
         picks,
         terms: row_terms(alloc, params, arrays, column)?,
         rows,
-        cell: row_cell(alloc, vars_of(params, column), params, arrays.layout)?,
+        cell: row_cell(alloc, row_vars(params, column), params, arrays.layout)?,
     })
 }

@@ -2,27 +2,26 @@ use Rattle.std.proofs.Common.{rules, sym, ap, ◌∙◌}
 use Rattle.nest_tree.specs.declared.body.Access.{Access}
 use Rattle.nest_tree.specs.declared.body.Body.{Body, the_lemmas}
 use Rattle.nest_tree.specs.declared.body.Body.TheVariants.{At, Plus, Minus, Times}
-use Rattle.nest_core.proofs.Bodies.{over-At, over-Plus, over-Minus, over-Times}
-use Rattle.pad_layouts.proofs.Padding.{padded-Const, padded-At, padded-Plus, padded-Minus, padded-Times}
+use Rattle.pad_layouts.proofs.Padding.{suits-At, suits-Plus, suits-Minus, suits-Times, padded-Const, padded-At, padded-Plus, padded-Minus, padded-Times}
 use Rattle.pad_layouts.proofs.body.+body.Goals as goal
 
-pub padded_body-padded_access-requires-clause-width : goal.padded_body-padded_access-requires-clause-width
-padded_body-padded_access-requires-clause-width t c = over-At _ _ _ c.in-At.is c.requires.width
+pub padded_body-padded_access-requires : goal.padded_body-padded_access-requires
+padded_body-padded_access-requires t c = suits-At _ _ _ c.in-At.is c.requires
 
 pub padded_body-padded_two-requires : goal.padded_body-padded_two-requires
 padded_body-padded_two-requires t c =
-    let o = over-Plus _ _ _ _ c.in-Plus.is c.requires.width in
-    (search (rules, the_lemmas), (c.requires.picks, (rw c.get.ensures o.0, rw c.get-in-Plus.ensures o.1)))
+    let o = suits-Plus _ _ _ _ c.in-Plus.is c.requires in
+    (search (rules, the_lemmas), (rw c.get.ensures o.0, rw c.get-in-Plus.ensures o.1))
 
 pub padded_body-padded_two-requires-in-Minus : goal.padded_body-padded_two-requires-in-Minus
 padded_body-padded_two-requires-in-Minus t c =
-    let o = over-Minus _ _ _ _ c.in-Minus.is c.requires.width in
-    (search (rules, the_lemmas), (c.requires.picks, (rw c.get-in-Minus.ensures o.0, rw c.get-in-Minus-2.ensures o.1)))
+    let o = suits-Minus _ _ _ _ c.in-Minus.is c.requires in
+    (search (rules, the_lemmas), (rw c.get-in-Minus.ensures o.0, rw c.get-in-Minus-2.ensures o.1))
 
 pub padded_body-padded_two-requires-in-Times : goal.padded_body-padded_two-requires-in-Times
 padded_body-padded_two-requires-in-Times t c =
-    let o = over-Times _ _ _ _ c.in-Times.is c.requires.width in
-    (search (rules, the_lemmas), (c.requires.picks, (rw c.get-in-Times.ensures o.0, rw c.get-in-Times-2.ensures o.1)))
+    let o = suits-Times _ _ _ _ c.in-Times.is c.requires in
+    (search (rules, the_lemmas), (rw c.get-in-Times.ensures o.0, rw c.get-in-Times-2.ensures o.1))
 
 pub padded_body-returns-in-Const : goal.padded_body-returns-in-Const
 padded_body-returns-in-Const t c = sym (padded-Const _ _ _ _ _ c.in-Const.is)

@@ -1,0 +1,135 @@
+// What a statement is padded to, or the first condition that isn't met.
+ghost use Rattle.std.specs.Prelude.{◌≡◌, ◌≤◌, ◌<◌, ◌+◌, length, Some, IfOk, IfSome};
+ghost use Rattle.std.specs.List.{AllByRecursion};
+ghost use Rattle.nest_core.specs.Shapes.{IsShaped, IsShapedNest};
+ghost use Rattle.pad_layouts.specs.Plans as spec;
+
+use crate::column::find_read;
+use crate::layout::{Layout, layout_of, level_of};
+use crate::product::{Entry, any_writes, is_product};
+use c_tree::{Matrix, Program};
+use chill_base::Padding;
+use nest_core::shares_loop;
+use nest_tree::{Kernel, Nest, ShapeWhy};
+
+/// What a statement is padded to.
+#[derive(Clone, Copy)]
+pub struct Plan {
+    pub layout: Layout,
+    /// The number of the matrix.
+    pub number: usize,
+    pub matrix: Matrix,
+    /// The variable of the read of an entry's column, where the statement has it and may keep it.
+    pub column: Option<usize>,
+}
+
+/// The read of an entry's column, which a statement over rows may have.
+fn column_of(head: &Program, matrix: &Matrix, layout: Layout, nest: &Nest) -> Option<usize>
+    requires { IsShapedNest head.now nest.now }
+    ensures { result ≡ spec.column_of (length head.now.params) matrix.now layout nest.now }
+{
+    let params = head.params.as_slice().len();
+    match layout {
+        Layout::Rows => find_read(matrix.col, params + 1, params + 2, nest.terms.as_slice()),
+        Layout::Block { .. } => None,
+        Layout::Diag => None,
+    }
+}
+
+/// The layout of a statement that goes over a whole matrix.
+#[tactic(auto, unfolding(crate::specs::Plans::whole_plan))]
+fn whole_plan(head: &Program, nest: &Nest, kind: Padding) -> Option<Plan>
+    requires { IsShapedNest head.now nest.now }
+    ensures { result ≡ spec.whole_plan head.now nest.now kind }
+{
+    let number = nest.whole?;
+    let matrix = head.matrices.as_slice()[number];
+    let layout = layout_of(kind, nest.levels.as_slice())?;
+    let column = column_of(head, &matrix, layout, nest);
+    Some(Plan {
+        layout,
+        number,
+        matrix,
+        column,
+    })
+}
+
+/// Whether the statement is a product with the entry's value, and no statement writes the values.
+fn can_pad(head: &Program, nests: &[Nest], nest: &Nest, plan: &Plan) -> bool
+    requires shaped { IsShapedNest head.now nest.now }
+    requires some { 1 ≤ length nest.now.levels }
+    ensures { result ≡ spec.can_pad (length head.now.params) nests.now nest.now plan.now }
+{
+    let params = head.params.as_slice().len();
+    let entry = Entry {
+        value: plan.matrix.value,
+        level: params + (nest.levels.as_slice().len() - 1),
+        allowed: plan.column,
+    };
+    is_product(&entry, nest) && !any_writes(plan.matrix.value, nests)
+}
+
+/// Whether another statement shares the loop with this one.
+fn is_shared(nests: &[Nest], statement: usize, level: usize, nest: &Nest) -> bool
+    ensures { result ≡ spec.any_shares 0 statement level nest.now nests.now }
+{
+    for other in 0..nests.len() {
+        let shares = shares_loop(level, nest, &nests[other]);
+        if shares && other != statement {
+            return true;
+        }
+    }
+    false
+}
+
+/// Whether the level is one of the statement's, and the one that the kind of padding is made at.
+fn is_level(nest: &Nest, level: usize, kind: Padding) -> bool
+    ensures { result ≡ spec.is_level (length nest.now.levels) level kind }
+{
+    1 <= level && level <= nest.levels.len() && level == level_of(kind)
+}
+
+/// The plan of a statement at hand, or the first shape that holds.
+fn nest_plan(
+    head: &Program,
+    nests: &[Nest],
+    statement: usize,
+    level: usize,
+    kind: Padding,
+    nest: &Nest,
+) -> Result<Plan, ShapeWhy>
+    requires { IsShapedNest head.now nest.now }
+    ensures { result ≡ spec.nest_plan head.now nests.now statement level kind nest.now }
+{
+    if !is_level(nest, level, kind) {
+        return Err(ShapeWhy::NoLoop);
+    }
+    let Some(plan) = whole_plan(head, nest, kind) else {
+        return Err(ShapeWhy::NotTraversal);
+    };
+    if !can_pad(head, nests, nest, &plan) {
+        return Err(ShapeWhy::NotProduct);
+    }
+    if is_shared(nests, statement, 1, nest) {
+        return Err(ShapeWhy::NotAlone);
+    }
+    Ok(plan)
+}
+
+/// What a statement is padded to, or the first shape that holds.
+#[tactic(auto, unfolding(crate::specs::Plans::plan_of))]
+pub fn plan_of(
+    kernel: &Kernel,
+    statement: usize,
+    level: usize,
+    kind: Padding,
+) -> Result<Plan, ShapeWhy>
+    requires { IsShaped kernel.now }
+    ensures { result ≡ spec.plan_of kernel.now statement level kind }
+{
+    let nests = kernel.nests.as_slice();
+    match kernel.nests.get(statement) {
+        Some(nest) => nest_plan(&kernel.head, nests, statement, level, kind, nest),
+        None => Err(ShapeWhy::NoStatement),
+    }
+}
