@@ -1,3 +1,4 @@
 pub mod Names
 pub mod Made
+pub mod Entering
 pub mod Answers

@@ -1,7 +1,7 @@
 // `compact_and_pad`.
 ghost use Rattle.std.specs.Prelude.{◌≡◌, ◌<◌, ◌≤◌, length, slice_get, IfOk, IfSome, OnOk, OnErr};
 ghost use Rattle.nest_core.specs.Shapes.{IsShaped, IsShapedNest};
-ghost use Rattle.pad_layouts.specs.Plans.{plan_of};
+ghost use Rattle.pad_layouts.specs.Plans.{plan_of, IsPlanAt};
 ghost use Rattle.compact_pad.specs.Answers.{AnswersFirst};
 
 use crate::kinds::{Entered, enter_blocks, enter_diagonals, enter_rows};
@@ -22,7 +22,7 @@ fn entered(
     name: Name,
 ) -> Result<Entered, Stop<ShapeWhy>>
     requires shaped { IsShaped kernel.now }
-    requires statement { statement < length kernel.now.nests }
+    requires plan { IsPlanAt kernel.now statement plan.now }
     ensures { IfOk result (λ e. IsShapedNest kernel.now.head e.nest) }
 {
     let head = &kernel.head;
@@ -78,12 +78,12 @@ fn test(
     alloc: Global,
     kernel: &Kernel,
     statement: usize,
-    layout: Layout,
+    plan: &Plan,
 ) -> Result<(), Stop<CommandFault>>
     requires shaped { IsShaped kernel.now }
-    requires statement { statement < length kernel.now.nests }
+    requires plan { IsPlanAt kernel.now statement plan.now }
 {
-    match layout {
+    match plan.layout {
         Layout::Block { .. } => {
             test_level(alloc, kernel, statement, 2)?;
             test_level(alloc, kernel, statement, 5)
@@ -105,7 +105,7 @@ fn pad_by(
     name: Name,
 ) -> Result<(), Stop<CommandFault>>
     requires shaped { IsShaped kernel.old }
-    requires statement { statement < length kernel.old.nests }
+    requires plan { IsPlanAt kernel.old statement plan.now }
     ensures shaped { OnOk result (IsShaped kernel.new) }
     ensures unchanged { OnErr result (kernel.new ≡ kernel.old) }
 {
@@ -114,7 +114,7 @@ fn pad_by(
         Err(Stop::Refused(why)) => return Err(Stop::Refused(CommandFault::Shape(why))),
         Err(Stop::NoMemory) => return Err(Stop::NoMemory),
     };
-    test(alloc, kernel, statement, plan.layout)?;
+    test(alloc, kernel, statement, plan)?;
     put_statement(alloc, kernel, statement, nest, made, lines)?;
     Ok(())
 }

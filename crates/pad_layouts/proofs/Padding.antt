@@ -49,3 +49,18 @@ module _ (picks : List (Option ℕ)) where
 
   pub suits-Times : (b x y : Body) → b ≡ Times x y → IsTrue (suits_body picks b) → IsTrue (suits_body picks x) × IsTrue (suits_body picks y)
   suits-Times b x y e h = both _ _ (sym (suits_at (Times x y) _ (outs-Times x y)) ∙ sym (ap (suits_body picks) e) ∙ h)
+
+  pub suits_is-Const : (n : ℕ) → suits_body picks (Const n) ≡ true
+  suits_is-Const n = suits_at (Const n) _ (outs-Const n)
+
+  pub suits_is-At : (a : Access) → suits_body picks (At a) ≡ list_all (suits picks) a.at
+  suits_is-At a = suits_at (At a) _ (outs-At a)
+
+  pub suits_is-Plus : (x y : Body) → suits_body picks (Plus x y) ≡ (suits_body picks x && suits_body picks y)
+  suits_is-Plus x y = suits_at (Plus x y) _ (outs-Plus x y)
+
+  pub suits_is-Minus : (x y : Body) → suits_body picks (Minus x y) ≡ (suits_body picks x && suits_body picks y)
+  suits_is-Minus x y = suits_at (Minus x y) _ (outs-Minus x y)
+
+  pub suits_is-Times : (x y : Body) → suits_body picks (Times x y) ≡ (suits_body picks x && suits_body picks y)
+  suits_is-Times x y = suits_at (Times x y) _ (outs-Times x y)

@@ -1,5 +1,5 @@
 -- What statements are padded to, or the first condition that isn't met.
-use Rattle.std.specs.Prelude.{ℕ, suc, ◌+◌, ◌-◌, Bool, true, false, cond, not, ◌&&◌, ◌||◌, nat_eq, nat_le, List, [], ◌∷◌, length, Option, Some, None, slice_get, Result, Ok, Err}
+use Rattle.std.specs.Prelude.{◌≡◌, ◌<◌, IsTrue, ℕ, suc, ◌+◌, ◌-◌, Bool, true, false, cond, not, ◌&&◌, ◌||◌, nat_eq, nat_le, List, [], ◌∷◌, length, Option, Some, None, slice_get, Result, Ok, Err}
 use Rattle.std.specs.List.{list_any}
 use Rattle.chill_base.specs.declared.padding.Padding.{Padding}
 use Rattle.c_tree.specs.declared.program.Matrix.{Matrix}
@@ -9,11 +9,19 @@ use Rattle.nest_tree.specs.declared.fault.ShapeWhy.TheVariants.{NoStatement, NoL
 use Rattle.nest_tree.specs.declared.kernel.Kernel.{Kernel}
 use Rattle.nest_tree.specs.declared.kernel.Nest.{Nest}
 use Rattle.nest_core.specs.Order.{shares_loop}
+use Rattle.nest_core.specs.Shapes.{vars_of}
+use Rattle.pad_layouts.specs.Moved.{is_pick}
 use Rattle.pad_layouts.specs.declared.layout.Layout.{Layout}
 use Rattle.pad_layouts.specs.declared.layout.Layout.TheVariants.{Block, Diag, Rows}
 use Rattle.pad_layouts.specs.declared.plan.Plan.{Plan}
 use Rattle.pad_layouts.specs.Layouts.{layout_of, level_of}
 use Rattle.pad_layouts.specs.Products.{find_read, is_product, writes}
+
+-- how deep a statement is that can be padded
+abbrev pub old_depth : Layout → ℕ
+old_depth (Block rows cols swapped) = 5
+old_depth Diag = 3
+old_depth Rows = 2
 
 -- the read of an entry's column, which a statement over rows may have
 abbrev pub column_of : ℕ → Matrix → Layout → Nest → Option ℕ
@@ -64,3 +72,14 @@ plan_at head nests s level kind (Some n) = nest_plan head nests s level kind n
 
 unfoldable pub plan_of : Kernel → ℕ → ℕ → Padding → Result Plan ShapeWhy
 plan_of k s level kind = plan_at k.head k.nests s level kind (slice_get k.nests s)
+
+-- the plan is one of the statement
+pub record IsPlan (head : Program) (n : Nest) (p : Plan) : Type 0 where
+  pub depth : length n.levels ≡ old_depth p.layout
+  pub number : p.number < length head.matrices
+  pub column : IsTrue (is_pick (vars_of (length head.params) n) p.column)
+
+pub record IsPlanAt (k : Kernel) (s : ℕ) (p : Plan) : Type 0 where
+  pub nest : Nest
+  pub found : slice_get k.nests s ≡ Some nest
+  pub plan : IsPlan k.head nest p

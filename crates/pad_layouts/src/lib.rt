@@ -13,11 +13,11 @@ mod parts;
 mod plan;
 mod product;
 mod rows;
+mod statement;
 
-pub use block::{Sides, block_parts};
+pub use block::Sides;
 pub use column::is_name;
-pub use diag::diag_parts;
 pub use layout::{Layout, layout_of, level_of};
-pub use parts::{KeptArrays, Parts, RowArrays, padded_nest};
+pub use parts::{KeptArrays, RowArrays};
 pub use plan::{Plan, plan_of};
-pub use rows::row_parts;
+pub use statement::{block_nest, diag_nest, row_nest};

@@ -1,8 +1,11 @@
 // What a statement is padded to, or the first condition that isn't met.
-ghost use Rattle.std.specs.Prelude.{◌≡◌, ◌≤◌, ◌<◌, ◌+◌, length, Some, IfOk, IfSome};
+ghost use Rattle.std.specs.Prelude.{◌≡◌, ◌≤◌, ◌<◌, ◌+◌, length, Some, IfOk, IfSome, IsTrue};
 ghost use Rattle.std.specs.List.{AllByRecursion};
-ghost use Rattle.nest_core.specs.Shapes.{IsShaped, IsShapedNest};
+ghost use Rattle.nest_core.specs.Shapes.{vars_of, IsShaped, IsShapedNest};
+ghost use Rattle.pad_layouts.specs.Layouts as layouts;
+ghost use Rattle.pad_layouts.specs.Moved.{is_pick};
 ghost use Rattle.pad_layouts.specs.Plans as spec;
+ghost use Rattle.pad_layouts.specs.Plans.{IsPlan, IsPlanAt};
 
 use crate::column::find_read;
 use crate::layout::{Layout, layout_of, level_of};
@@ -10,7 +13,7 @@ use crate::product::{Entry, any_writes, is_product};
 use c_tree::{Matrix, Program};
 use chill_base::Padding;
 use nest_core::shares_loop;
-use nest_tree::{Kernel, Nest, ShapeWhy};
+use nest_tree::{Form, Kernel, Nest, ShapeWhy};
 
 /// What a statement is padded to.
 #[derive(Clone, Copy)]
@@ -25,8 +28,10 @@ pub struct Plan {
 
 /// The read of an entry's column, which a statement over rows may have.
 fn column_of(head: &Program, matrix: &Matrix, layout: Layout, nest: &Nest) -> Option<usize>
-    requires { IsShapedNest head.now nest.now }
-    ensures { result ≡ spec.column_of (length head.now.params) matrix.now layout nest.now }
+    requires shaped { IsShapedNest head.now nest.now }
+    requires depth { length nest.now.levels ≡ spec.old_depth layout }
+    ensures value { result ≡ spec.column_of (length head.now.params) matrix.now layout nest.now }
+    ensures within { IsTrue (is_pick (vars_of (length head.now.params) nest.now) result) }
 {
     let params = head.params.as_slice().len();
     match layout {
@@ -36,15 +41,24 @@ fn column_of(head: &Program, matrix: &Matrix, layout: Layout, nest: &Nest) -> Op
     }
 }
 
+/// The layout that the levels allow.
+fn layout_at(kind: Padding, levels: &[Form]) -> Option<Layout>
+    ensures value { result ≡ layouts.layout_of kind levels.now }
+    ensures depth { IfSome result (λ l. length levels.now ≡ spec.old_depth l) }
+{
+    layout_of(kind, levels)
+}
+
 /// The layout of a statement that goes over a whole matrix.
 #[tactic(auto, unfolding(crate::specs::Plans::whole_plan))]
 fn whole_plan(head: &Program, nest: &Nest, kind: Padding) -> Option<Plan>
     requires { IsShapedNest head.now nest.now }
-    ensures { result ≡ spec.whole_plan head.now nest.now kind }
+    ensures value { result ≡ spec.whole_plan head.now nest.now kind }
+    ensures is { IfSome result (λ p. IsPlan head.now nest.now p) }
 {
     let number = nest.whole?;
     let matrix = head.matrices.as_slice()[number];
-    let layout = layout_of(kind, nest.levels.as_slice())?;
+    let layout = layout_at(kind, nest.levels.as_slice())?;
     let column = column_of(head, &matrix, layout, nest);
     Some(Plan {
         layout,
@@ -99,7 +113,8 @@ fn nest_plan(
     nest: &Nest,
 ) -> Result<Plan, ShapeWhy>
     requires { IsShapedNest head.now nest.now }
-    ensures { result ≡ spec.nest_plan head.now nests.now statement level kind nest.now }
+    ensures value { result ≡ spec.nest_plan head.now nests.now statement level kind nest.now }
+    ensures is { IfOk result (λ p. IsPlan head.now nest.now p) }
 {
     if !is_level(nest, level, kind) {
         return Err(ShapeWhy::NoLoop);
@@ -125,7 +140,8 @@ pub fn plan_of(
     kind: Padding,
 ) -> Result<Plan, ShapeWhy>
     requires { IsShaped kernel.now }
-    ensures { result ≡ spec.plan_of kernel.now statement level kind }
+    ensures value { result ≡ spec.plan_of kernel.now statement level kind }
+    ensures is { IfOk result (λ p. IsPlanAt kernel.now statement p) }
 {
     let nests = kernel.nests.as_slice();
     match kernel.nests.get(statement) {
