@@ -49,23 +49,55 @@ fn layout_at(kind: Padding, levels: &[Form]) -> Option<Layout>
     layout_of(kind, levels)
 }
 
-/// The layout of a statement that goes over a whole matrix.
+/// The plan of a statement with this layout.
+fn with_layout(head: &Program, nest: &Nest, number: usize, matrix: &Matrix, layout: Layout) -> Plan
+    requires shaped { IsShapedNest head.now nest.now }
+    requires depth { length nest.now.levels ≡ spec.old_depth layout }
+    requires number { number < length head.now.matrices }
+    ensures value { Some result ≡ spec.with_layout (length head.now.params) nest.now number matrix.now (Some layout) }
+    ensures is { IsPlan head.now nest.now result }
+{
+    Plan {
+        layout,
+        number,
+        matrix: *matrix,
+        column: column_of(head, matrix, layout, nest),
+    }
+}
+
+/// The plan of a statement over this matrix.
+fn with_matrix(
+    head: &Program,
+    nest: &Nest,
+    kind: Padding,
+    number: usize,
+    matrix: &Matrix,
+) -> Option<Plan>
+    requires shaped { IsShapedNest head.now nest.now }
+    requires number { number < length head.now.matrices }
+    ensures value { result ≡ spec.with_matrix (length head.now.params) nest.now kind number (Some matrix.now) }
+    ensures is { IfSome result (λ p. IsPlan head.now nest.now p) }
+{
+    match layout_at(kind, nest.levels.as_slice()) {
+        Some(layout) => Some(with_layout(head, nest, number, matrix, layout)),
+        None => None,
+    }
+}
+
+/// The plan of a statement that goes over a whole matrix.
 #[tactic(auto, unfolding(crate::specs::Plans::whole_plan))]
 fn whole_plan(head: &Program, nest: &Nest, kind: Padding) -> Option<Plan>
     requires { IsShapedNest head.now nest.now }
     ensures value { result ≡ spec.whole_plan head.now nest.now kind }
     ensures is { IfSome result (λ p. IsPlan head.now nest.now p) }
 {
-    let number = nest.whole?;
-    let matrix = head.matrices.as_slice()[number];
-    let layout = layout_at(kind, nest.levels.as_slice())?;
-    let column = column_of(head, &matrix, layout, nest);
-    Some(Plan {
-        layout,
-        number,
-        matrix,
-        column,
-    })
+    match nest.whole {
+        Some(number) => {
+            let matrix = &head.matrices.as_slice()[number];
+            with_matrix(head, nest, kind, number, matrix)
+        }
+        None => None,
+    }
 }
 
 /// Whether the statement is a product with the entry's value, and no statement writes the values.
