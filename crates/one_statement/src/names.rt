@@ -1,11 +1,11 @@
-// Names that a copy can't have.
+// Names that arrays which commands make can't have.
 ghost use Rattle.std.specs.Prelude.{◌≡◌, IsTrue};
-ghost use Rattle.datacopy.specs.Names as spec;
+ghost use Rattle.one_statement.specs.Names as spec;
 
-use crate::reads::is_name;
 use c_tokens::{Token, Tokens};
 use c_tree::Array;
 use chill_base::Name;
+use nest_systems::is_name;
 use nest_tree::{Kernel, Made};
 
 /// Whether the name is a word of the language, as a text is read.

@@ -1,0 +1,4 @@
+pub mod Names
+pub mod Made
+pub mod Images
+pub mod Put
