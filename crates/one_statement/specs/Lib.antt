@@ -2,3 +2,4 @@ pub mod Names
 pub mod Made
 pub mod Images
 pub mod Put
+pub mod Alone

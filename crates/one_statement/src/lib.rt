@@ -2,6 +2,7 @@
 //! place of another.
 #![tactic(auto)]
 
+mod alone;
 mod copies;
 mod images;
 mod made;
@@ -9,6 +10,7 @@ mod names;
 mod put;
 mod replace;
 
+pub use alone::is_alone;
 pub use copies::copy_nest;
 pub use images::{Images, image_form};
 pub use made::{has_room, made_name};
