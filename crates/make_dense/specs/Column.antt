@@ -23,10 +23,13 @@ same_levels vars params levels = map (λ l. unit vars (params + l)) (range_with_
 abbrev pub image_var : List ℕ → ℕ → ℕ → ℕ → Term → ℕ
 image_var column dense entry v t = cond (reads_at column entry (pos 0) t) dense v
 
+abbrev pub term_image : List ℕ → ℕ → ℕ → ℕ → ℕ → Term → Aff
+term_image column dense entry vars v t = unit vars (image_var column dense entry v t)
+
 -- what the terms become, which are the variables from v on
 abbrev pub term_images : List ℕ → ℕ → ℕ → ℕ → ℕ → List Term → List Aff
 term_images column dense entry vars v [] = []
-term_images column dense entry vars v (t ∷ ts) = unit vars (image_var column dense entry v t) ∷ term_images column dense entry vars (suc v) ts
+term_images column dense entry vars v (t ∷ ts) = term_image column dense entry vars v t ∷ term_images column dense entry vars (suc v) ts
 
 -- the column's level stands for each read of the column at the entry, which is the level behind it; all other variables stay
 unfoldable pub column_images : ℕ → Nest → ℕ → List ℕ → Images

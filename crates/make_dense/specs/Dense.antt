@@ -30,9 +30,12 @@ abbrev pub dense_nest : List (List ℕ) → Nest → ℕ → Matrix → Result N
 dense_nest params n level m = after (nest_with_level params n level m) (λ new. with_column (length params) new level m.col)
 
 -- ---- the moves that are tested
--- statements that stay as they are
+-- a statement that stays as it is, and several
+abbrev pub stay : ℕ → Nest → List Piece
+stay params n = piece_at params n n.positions ∷ []
+
 abbrev pub stays : ℕ → List Nest → List (List Piece)
-stays params ns = map (λ (n : Nest). piece_at params n n.positions ∷ []) ns
+stays params ns = map (stay params) ns
 
 -- the piece for statement s, and all others as they are
 abbrev pub pieces_with : ℕ → List Nest → ℕ → Piece → List (List Piece)

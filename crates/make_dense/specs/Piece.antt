@@ -12,7 +12,7 @@ use Rattle.nest_tree.specs.declared.moves.Piece.{Piece}
 use Rattle.nest_systems.specs.Ranges.{of_one}
 use Rattle.affine_moves.specs.Change.{padded, unit}
 use Rattle.make_dense.specs.declared.places.Places.{Places}
-use Rattle.make_dense.specs.Forms.{of_two, find_read}
+use Rattle.make_dense.specs.Forms.{difference, find_read}
 use Rattle.make_dense.specs.Places.{vars, dense_var, entry_var, column_var, new_place}
 
 -- where the variables will stand
@@ -38,19 +38,23 @@ below_columns params s columns = record { coefs = (of_one params columns (pos 0)
 
 -- j - col[k] = 0
 abbrev pub at_column : Places → KernelRow
-at_column s = record { row = record { equal = true; form = of_two (vars s) (dense_var s) (pos 1) (column_var s) (negsuc 0) }; own = 0 }
+at_column s = record { row = record { equal = true; form = difference (vars s) (dense_var s) (column_var s) }; own = 0 }
 
 -- j >= 0, m - 1 - j >= 0 and j - col[k] = 0
 abbrev pub dense_rows : List (List ℕ) → Places → List ℕ → List KernelRow
 dense_rows params s columns = bound s.level (unit (vars s) (dense_var s)) ∷ bound s.level (below_columns params s columns) ∷ at_column s ∷ []
 
-abbrev pub terms_for : Option ℕ → List ℕ → Aff → List Term
-terms_for (Some k) array f = []
-terms_for None array f = record { array = array; at = f ∷ [] } ∷ []
+-- col[k]
+abbrev pub column_read : Places → List ℕ → Term
+column_read s array = record { array = array; at = unit (vars s) (entry_var s) ∷ [] }
+
+abbrev pub terms_for : Option ℕ → Term → List Term
+terms_for (Some k) t = []
+terms_for None t = t ∷ []
 
 -- col[k], where the statement doesn't read it
 abbrev pub dense_terms : Places → List ℕ → List Term
-dense_terms s array = terms_for s.column array (unit (vars s) (entry_var s))
+dense_terms s array = terms_for s.column (column_read s array)
 
 -- the new level of a whole statement is the column
 abbrev pub dense_form : Option ℕ → Form

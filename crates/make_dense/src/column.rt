@@ -42,23 +42,41 @@ fn image_var(column: Name, dense: usize, entry: usize, term: &Term, var: usize) 
     }
 }
 
+/// What a term becomes, as a form over so many variables.
+fn term_image(
+    alloc: Global,
+    column: Name,
+    dense: usize,
+    entry: usize,
+    vars: usize,
+    term: &Term,
+    var: usize,
+) -> Result<Aff, NoMemory>
+    requires dense { dense < vars }
+    requires var { var < vars }
+    ensures { IfOk result (λ f. f ≡ spec.term_image column dense entry vars var term.now) }
+{
+    unit(alloc, vars, image_var(column, dense, entry, term, var))
+}
+
 /// What the terms become, which are the variables from `first` on.
 fn term_images(
     alloc: Global,
     column: Name,
     dense: usize,
     entry: usize,
+    vars: usize,
     first: usize,
     terms: &[Term],
 ) -> Result<List<Aff>, NoMemory>
-    requires { dense < first }
-    ensures { IfOk result (λ fs. fs ≡ spec.term_images column dense entry (first + length terms.now) first terms.now) }
+    requires dense { dense < vars }
+    requires vars { first + length terms.now ≤ vars }
+    ensures { IfOk result (λ fs. fs ≡ spec.term_images column dense entry vars first terms.now) }
 {
     let mut forms = List::new(alloc);
-    let vars = first + terms.len();
     for place in 0..terms.len() {
-        let var = image_var(column, dense, entry, &terms[place], first + place);
-        forms.push(unit(alloc, vars, var)?)?;
+        let term = &terms[place];
+        forms.push(term_image(alloc, column, dense, entry, vars, term, first + place)?)?;
     }
     Ok(forms)
 }
@@ -83,7 +101,7 @@ fn column_images(
     let vars = first + terms.len();
     let mut forms = same_levels(alloc, vars, params, nest.levels.len())?;
     let dense = params + (level - 1);
-    forms.append(term_images(alloc, column, dense, params + level, first, terms)?)?;
+    forms.append(term_images(alloc, column, dense, params + level, vars, first, terms)?)?;
     Ok(Images {
         params,
         vars,

@@ -1,6 +1,7 @@
 // Forms of one and of two variables.
-ghost use Rattle.std.specs.Prelude.{◌≡◌, map, IfOk, pos};
+ghost use Rattle.std.specs.Prelude.{◌≡◌, map, IfOk};
 ghost use Rattle.std.specs.List.{range_with_len};
+ghost use Rattle.std.specs.Ordering.{int_eq};
 ghost use Rattle.make_dense.specs.Forms as spec;
 
 use chill_base::{List, Name, NoMemory};
@@ -9,55 +10,54 @@ use nest_systems::is_name;
 use nest_tree::Term;
 use std::alloc::Global;
 
-/// The coefficient of a variable in the form `a*x + b*y`.
-pub fn coef_of_two(x: usize, a: i128, y: usize, b: i128, var: usize) -> i128
-    ensures { result ≡ spec.coef_of_two x a y b var }
+/// The coefficient of a variable in the form `x - y`; that form is `x` where both are one variable.
+pub fn coef_of_difference(x: usize, y: usize, var: usize) -> i128
+    ensures { result ≡ spec.coef_of_difference x y var }
 {
     if var == x {
-        a
+        1
     } else if var == y {
-        b
+        -1
     } else {
         0
     }
 }
 
-/// The form `a*x + b*y` over so many variables.
-#[tactic(auto, unfolding(crate::specs::Forms::of_two))]
-pub fn of_two(
-    alloc: Global,
-    vars: usize,
-    x: usize,
-    a: i128,
-    y: usize,
-    b: i128,
-) -> Result<Aff, NoMemory>
-    ensures { IfOk result (λ f. f ≡ spec.of_two vars x a y b) }
+/// The form `x - y` over so many variables.
+#[tactic(auto, unfolding(crate::specs::Forms::difference))]
+pub fn difference(alloc: Global, vars: usize, x: usize, y: usize) -> Result<Aff, NoMemory>
+    ensures { IfOk result (λ f. f ≡ spec.difference vars x y) }
 {
     let mut coefs = List::new(alloc);
     for var in 0..vars {
-        coefs.push(coef_of_two(x, a, y, b, var))?;
+        coefs.push(coef_of_difference(x, y, var))?;
     }
     Ok(Aff { coefs, constant: 0 })
 }
 
-fn has_coefs(coefs: &[i128], x: usize, a: i128, y: usize, b: i128) -> bool
-    ensures { result ≡ spec.has_coefs x a y b 0 coefs.now }
+fn is_coef(number: i128, x: usize, y: usize, var: usize) -> bool
+    ensures { result ≡ int_eq number (spec.coef_of_difference x y var) }
+{
+    number == coef_of_difference(x, y, var)
+}
+
+fn has_coefs(coefs: &[i128], x: usize, y: usize) -> bool
+    ensures { result ≡ spec.has_coefs x y 0 coefs.now }
 {
     for var in 0..coefs.len() {
-        if coefs[var] != coef_of_two(x, a, y, b, var) {
+        if !is_coef(coefs[var], x, y, var) {
             return false;
         }
     }
     true
 }
 
-/// Whether the form is `a*x + b*y + constant`.
-#[tactic(auto, unfolding(crate::specs::Forms::is_of_two))]
-pub fn is_of_two(form: &Aff, x: usize, a: i128, y: usize, b: i128, constant: i128) -> bool
-    ensures { result ≡ spec.is_of_two x a y b constant form.now }
+/// Whether the form is `x - y + constant`.
+#[tactic(auto, unfolding(crate::specs::Forms::is_difference))]
+pub fn is_difference(form: &Aff, x: usize, y: usize, constant: i128) -> bool
+    ensures { result ≡ spec.is_difference x y constant form.now }
 {
-    has_coefs(form.coefs.as_slice(), x, a, y, b) && form.constant == constant
+    has_coefs(form.coefs.as_slice(), x, y) && form.constant == constant
 }
 
 /// Whether the term reads the array at the variable plus a number, and at nothing else.
@@ -65,7 +65,7 @@ pub fn reads_at(term: &Term, array: Name, var: usize, shift: i128) -> bool
     ensures { result ≡ spec.reads_at array var shift term.now }
 {
     match term.at.as_slice() {
-        [form] => is_name(term.array, array) && is_of_two(form, var, 1, var, 0, shift),
+        [form] => is_name(term.array, array) && is_difference(form, var, var, shift),
         _ => false,
     }
 }

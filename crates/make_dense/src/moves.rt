@@ -11,6 +11,15 @@ use chill_base::{List, NoMemory};
 use nest_tree::{Kernel, Moves, Nest, Piece};
 use std::alloc::Global;
 
+/// The piece of a statement that stays as it is.
+fn stay(alloc: Global, head: &Program, nest: &Nest) -> Result<List<Piece>, NoMemory>
+    requires { IsShapedNest head.now nest.now }
+    ensures { IfOk result (λ ps. ps ≡ spec.stay (length head.now.params) nest.now) }
+{
+    let positions = List::from_slice(alloc, nest.positions.as_slice())?;
+    list_of(alloc, piece_at(alloc, head, nest, positions)?)
+}
+
 /// Statements that stay as they are.
 fn stays(alloc: Global, head: &Program, nests: &[Nest]) -> Result<List<List<Piece>>, NoMemory>
     requires { AllByRecursion (IsShapedNest head.now) nests.now }
@@ -18,9 +27,7 @@ fn stays(alloc: Global, head: &Program, nests: &[Nest]) -> Result<List<List<Piec
 {
     let mut pieces = List::new(alloc);
     for nest in nests {
-        let positions = List::from_slice(alloc, nest.positions.as_slice())?;
-        let piece = piece_at(alloc, head, nest, positions)?;
-        pieces.push(list_of(alloc, piece)?)?;
+        pieces.push(stay(alloc, head, nest)?)?;
     }
     Ok(pieces)
 }
@@ -49,8 +56,9 @@ fn pieces_with(
     ensures { IfOk result (λ ps. ps ≡ spec.pieces_with (length head.now.params) nests.now statement piece) }
 {
     let mut pieces = stays(alloc, head, &nests[..statement])?;
+    let behind = stays(alloc, head, &nests[statement + 1..])?;
     pieces.push(list_of(alloc, piece)?)?;
-    pieces.append(stays(alloc, head, &nests[statement + 1..])?)?;
+    pieces.append(behind)?;
     Ok(pieces)
 }
 

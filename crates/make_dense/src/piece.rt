@@ -5,9 +5,9 @@ ghost use Rattle.nest_core.specs.Shapes.{IsShapedNest};
 ghost use Rattle.make_dense.specs.Places.{vars, new_place, IsPlaces};
 ghost use Rattle.make_dense.specs.Piece as spec;
 
-use crate::forms::{find_read, of_two};
+use crate::forms::{difference, find_read};
 use crate::places::{Places, column_var, dense_var, entry_var, vars};
-use affine_moves::{padded, unit};
+use affine_moves::{list_of, padded, unit};
 use c_tree::{Matrix, Program};
 use chill_base::{List, Name, NoMemory};
 use int_rows::{Aff, Row};
@@ -18,9 +18,25 @@ use std::alloc::Global;
 /// The new place of an old level.
 fn new_place(level: usize, place: usize) -> usize
     requires { place < 8 }
-    ensures { result ≡ new_place level place }
+    ensures value { result ≡ new_place level place }
+    ensures within { result ≤ place + 1 }
 {
     if place + 1 < level { place } else { place + 1 }
+}
+
+/// An old level as a form of the new variables.
+#[tactic(auto, unfolding(crate::specs::Piece::old_form))]
+fn old_form(alloc: Global, places: Places, place: usize) -> Result<Aff, NoMemory>
+    requires places { IsPlaces places }
+    requires place { place < places.depth }
+    requires small { place < 8 }
+    ensures { IfOk result (λ f. f ≡ spec.old_form places place) }
+{
+    unit(
+        alloc,
+        vars(places),
+        places.params + new_place(places.level, place),
+    )
 }
 
 /// The old levels as forms of the new variables.
@@ -31,8 +47,7 @@ fn old_forms(alloc: Global, places: Places) -> Result<List<Aff>, NoMemory>
 {
     let mut forms = List::new(alloc);
     for place in 0..places.depth {
-        let var = places.params + new_place(places.level, place);
-        forms.push(unit(alloc, vars(places), var)?)?;
+        forms.push(old_form(alloc, places, place)?)?;
     }
     Ok(forms)
 }
@@ -108,19 +123,27 @@ fn dense_rows(
     Ok(rows)
 }
 
+/// A read of the entry's column.
+fn column_read(alloc: Global, places: Places, column: Name) -> Result<Term, NoMemory>
+    requires { IsPlaces places }
+    ensures { IfOk result (λ t. t ≡ spec.column_read places column) }
+{
+    let entry = unit(alloc, vars(places), entry_var(places))?;
+    Ok(Term {
+        array: column,
+        at: list_of(alloc, entry)?,
+    })
+}
+
 /// A read of the entry's column, where the statement has none.
 fn dense_terms(alloc: Global, places: Places, column: Name) -> Result<List<Term>, NoMemory>
     requires { IsPlaces places }
     ensures { IfOk result (λ ts. ts ≡ spec.dense_terms places column) }
 {
-    let mut terms = List::new(alloc);
-    if places.column.is_some() {
-        return Ok(terms);
+    match places.column {
+        Some(_) => Ok(List::new(alloc)),
+        None => list_of(alloc, column_read(alloc, places, column)?),
     }
-    let mut at = List::new(alloc);
-    at.push(unit(alloc, vars(places), entry_var(places))?)?;
-    terms.push(Term { array: column, at })?;
-    Ok(terms)
 }
 
 /// What the new level stands for.
