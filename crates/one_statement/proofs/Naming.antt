@@ -2,7 +2,7 @@
 use Rattle.std.proofs.Common.{◌≡◌, ℕ, arith, ◌≤◌, ◌+◌, ◌-◌, List, ◌++◌, length, length-append, ap, ◌∙◌, nat_le, le-leb, take, append_assoc, sym, refl}
 use Rattle.std.proofs.lemmas.List.{take_at}
 use Rattle.std.specs.Prelude.{Option, Some, None, IfSome, IsSome, true, false}
-use Rattle.one_statement.specs.Made.{name_of, made_name}
+use Rattle.one_statement.specs.Made.{made_name}
 
 pub named : (r : Option (List ℕ)) (bytes front suffix : List ℕ) → IfSome r (λ n. n ≡ bytes) → (1 ≤ length bytes → length bytes ≤ 63 → IsSome r)
     → bytes ≡ front ++ suffix → 1 ≤ length front → length front ≤ 63 → length suffix ≤ 63 - length front → r ≡ made_name front suffix

@@ -1,7 +1,7 @@
 -- A statement in the place of another.
-use Rattle.std.proofs.Common.{◌≡◌, ℕ, suc, arith, ◌<◌, ◌+◌, List, [], ◌∷◌, length, ◌++◌, take, drop, refl, sym, ap, ◌∙◌, ◌≤◌, append_assoc, append-nil, length-append, length-take, length-drop}
+use Rattle.std.proofs.Common.{◌≡◌, ℕ, arith, ◌<◌, ◌+◌, List, [], ◌∷◌, length, ◌++◌, take, drop, refl, sym, ap, ◌∙◌, ◌≤◌, append_assoc, append-nil, length-append, length-take, length-drop}
 use Rattle.std.specs.Prelude.{Option, Some, None, Result, Ok, Err, OnOk, MatchOption, slice_get, remove}
-use Rattle.std.proofs.lemmas.List.{take_at, take_all, take-append-le}
+use Rattle.std.proofs.lemmas.List.{take_all, take-append-le}
 use Rattle.std.specs.List.{AllByRecursion}
 use Rattle.chill_base.proofs.Each.{each-append, each-take, each-drop}
 use Rattle.c_tree.specs.declared.program.Program.{Program}

@@ -1,8 +1,7 @@
 -- Replaced forms have one coefficient for each new variable.
-use Rattle.std.proofs.Common.{◌≡◌, ℕ, arith, ◌≤◌, ◌+◌, ◌-◌, true, ◌&&◌, nat_le, List, [], ◌++◌, length, refl, ap, sym, ◌∙◌, ℤ, pos, take, drop, append-nil, length-drop, length-append, length-take, eq-eqb}
+use Rattle.std.proofs.Common.{◌≡◌, ℕ, arith, ◌≤◌, ◌+◌, ◌-◌, true, ◌&&◌, nat_le, List, [], ◌++◌, length, ap, sym, ◌∙◌, ℤ, pos, take, drop, append-nil}
 use Rattle.std.specs.Prelude.{Result, Ok, Err, IfOk, IsTrue, replicate, nat_eq, not, ◌||◌}
 use Rattle.std.specs.List.{list_all}
-use Rattle.std.proofs.lemmas.Bool.{eqb-true}
 use Rattle.std.proofs.lemmas.List.{drop_all}
 use Rattle.chill_base.specs.declared.faults.Stop.{Stop}
 use Rattle.chill_base.specs.declared.faults.Stop.TheVariants.{Refused, NoMemory}
@@ -21,7 +20,7 @@ use Rattle.nest_core.proofs.Kept.{after_ok, and, each_made-all, rewritten-width,
 use Rattle.nest_core.proofs.BodiesKept.{body_made-kept}
 use Rattle.nest_core.proofs.Rewrites.{levels_at}
 use Rattle.one_statement.specs.declared.images.Images.{Images}
-use Rattle.one_statement.specs.Images.{old_vars, frame_of, image_of, row_image, same_row}
+use Rattle.one_statement.specs.Images.{old_vars, frame_of, image_of, same_row}
 
 pub replaced_at : (i : Images) (bs cs : List ℤ) → bs ≡ cs → length cs ≡ old_vars i → take (length bs - i.params) (drop i.params bs) ≡ level_coefs (frame_of i) cs
 replaced_at i bs cs e w = levels_at (frame_of i) (length bs - i.params) bs cs (omega (arith, ap length e, w)) e
