@@ -1,32 +1,87 @@
 // `compact_and_pad`.
-ghost use Rattle.std.specs.Prelude.{◌≡◌, ◌<◌, ◌≤◌, length, slice_get, IfOk, IfSome, OnOk, OnErr};
-ghost use Rattle.nest_core.specs.Shapes.{IsShaped, IsShapedNest};
-ghost use Rattle.pad_layouts.specs.Plans.{plan_of, IsPlanAt};
+ghost use Rattle.std.specs.Prelude.{◌≡◌, ◌<◌, ◌≤◌, length, slice_get, IsTrue, IfOk, IfSome, OnOk, OnErr, Some};
+ghost use Rattle.nest_core.specs.Shapes.{vars_of, IsShaped, IsShapedNest};
+ghost use Rattle.pad_layouts.specs.Moved.{is_pick};
+ghost use Rattle.pad_layouts.specs.Plans.{plan_of, IsPlan, IsPlanAt};
 ghost use Rattle.compact_pad.specs.Answers.{AnswersFirst};
+ghost use Rattle.compact_pad.specs.Padded as spec;
+ghost use Rattle.compact_pad.specs.Padded.{IsPadded, IsPut};
 
 use crate::kinds::{Entered, enter_blocks, enter_diagonals, enter_rows};
 use crate::names::{free_kept_names, free_row_names};
 use chill_base::{Name, Padding, Stop};
 use depend_test::{first_compact_dependence, overflow};
-use nest_tree::{CommandFault, Kernel, ShapeWhy};
+use nest_tree::{CommandFault, Kernel, Nest, ShapeWhy};
 use one_statement::put_statement;
 use pad_layouts::{Layout, Plan, Sides, plan_of};
 use std::alloc::Global;
+
+/// What blocks bring into the kernel, or the shape of their names.
+fn named_blocks(
+    alloc: Global,
+    kernel: &Kernel,
+    nest: &Nest,
+    plan: &Plan,
+    sides: Sides,
+    name: Name,
+) -> Result<Entered, Stop<ShapeWhy>>
+    requires shaped { IsShapedNest kernel.now.head nest.now }
+    requires depth { length nest.now.levels ≡ 5 }
+    ensures value { IfOk result (λ e. spec.named_blocks kernel.now.head.params nest.now plan.now sides name ≡ Some e) }
+    ensures shaped { IfOk result (λ e. IsShapedNest kernel.now.head e.nest) }
+{
+    let names = free_kept_names(kernel, name)?;
+    Ok(enter_blocks(alloc, &kernel.head, nest, plan, sides, &names)?)
+}
+
+/// What diagonals bring into the kernel, or the shape of their names.
+fn named_diagonals(
+    alloc: Global,
+    kernel: &Kernel,
+    nest: &Nest,
+    plan: &Plan,
+    name: Name,
+) -> Result<Entered, Stop<ShapeWhy>>
+    requires shaped { IsShapedNest kernel.now.head nest.now }
+    requires depth { length nest.now.levels ≡ 3 }
+    ensures value { IfOk result (λ e. spec.named_diagonals kernel.now.head.params nest.now plan.now name ≡ Some e) }
+    ensures shaped { IfOk result (λ e. IsShapedNest kernel.now.head e.nest) }
+{
+    let names = free_kept_names(kernel, name)?;
+    Ok(enter_diagonals(alloc, &kernel.head, nest, plan, &names)?)
+}
+
+/// What padded rows bring into the kernel, or the shape of their names.
+fn named_rows(
+    alloc: Global,
+    kernel: &Kernel,
+    nest: &Nest,
+    plan: &Plan,
+    name: Name,
+) -> Result<Entered, Stop<ShapeWhy>>
+    requires shaped { IsShapedNest kernel.now.head nest.now }
+    requires depth { length nest.now.levels ≡ 2 }
+    requires column { IsTrue (is_pick (vars_of (length kernel.now.head.params) nest.now) plan.now.column) }
+    ensures value { IfOk result (λ e. spec.named_rows kernel.now.head.params nest.now plan.now name ≡ Some e) }
+    ensures shaped { IfOk result (λ e. IsShapedNest kernel.now.head e.nest) }
+{
+    let names = free_row_names(kernel, name)?;
+    Ok(enter_rows(alloc, &kernel.head, nest, plan, &names)?)
+}
 
 /// What the padding brings into the kernel, or the shape of its names.
 fn entered(
     alloc: Global,
     kernel: &Kernel,
-    statement: usize,
+    nest: &Nest,
     plan: &Plan,
     name: Name,
 ) -> Result<Entered, Stop<ShapeWhy>>
-    requires shaped { IsShaped kernel.now }
-    requires plan { IsPlanAt kernel.now statement plan.now }
-    ensures { IfOk result (λ e. IsShapedNest kernel.now.head e.nest) }
+    requires shaped { IsShapedNest kernel.now.head nest.now }
+    requires plan { IsPlan kernel.now.head nest.now plan.now }
+    ensures value { IfOk result (λ e. spec.entered kernel.now.head.params nest.now plan.now name ≡ Some e) }
+    ensures shaped { IfOk result (λ e. IsShapedNest kernel.now.head e.nest) }
 {
-    let head = &kernel.head;
-    let nest = &kernel.nests.as_slice()[statement];
     match plan.layout {
         Layout::Block {
             rows,
@@ -38,19 +93,10 @@ fn entered(
                 cols,
                 swapped,
             };
-            match free_kept_names(kernel, name) {
-                Ok(names) => Ok(enter_blocks(alloc, head, nest, plan, sides, &names)?),
-                Err(why) => Err(Stop::Refused(why)),
-            }
+            named_blocks(alloc, kernel, nest, plan, sides, name)
         }
-        Layout::Diag => match free_kept_names(kernel, name) {
-            Ok(names) => Ok(enter_diagonals(alloc, head, nest, plan, &names)?),
-            Err(why) => Err(Stop::Refused(why)),
-        },
-        Layout::Rows => match free_row_names(kernel, name) {
-            Ok(names) => Ok(enter_rows(alloc, head, nest, plan, &names)?),
-            Err(why) => Err(Stop::Refused(why)),
-        },
+        Layout::Diag => named_diagonals(alloc, kernel, nest, plan, name),
+        Layout::Rows => named_rows(alloc, kernel, nest, plan, name),
     }
 }
 
@@ -96,6 +142,27 @@ fn test(
     }
 }
 
+/// What the padding of a statement brings into the kernel, or why it is refused before any test.
+fn entered_at(
+    alloc: Global,
+    kernel: &Kernel,
+    statement: usize,
+    plan: &Plan,
+    name: Name,
+) -> Result<Entered, Stop<CommandFault>>
+    requires shaped { IsShaped kernel.now }
+    requires plan { IsPlanAt kernel.now statement plan.now }
+    ensures put { IfOk result (λ e. IsPut kernel.now statement plan.now name e) }
+    ensures shaped { IfOk result (λ e. IsShapedNest kernel.now.head e.nest) }
+{
+    let nest = &kernel.nests.as_slice()[statement];
+    match entered(alloc, kernel, nest, plan, name) {
+        Ok(entered) => Ok(entered),
+        Err(Stop::Refused(why)) => Err(Stop::Refused(CommandFault::Shape(why))),
+        Err(Stop::NoMemory) => Err(Stop::NoMemory),
+    }
+}
+
 /// Pads the statement by a plan.
 fn pad_by(
     alloc: Global,
@@ -106,14 +173,11 @@ fn pad_by(
 ) -> Result<(), Stop<CommandFault>>
     requires shaped { IsShaped kernel.old }
     requires plan { IsPlanAt kernel.old statement plan.now }
+    ensures padded { OnOk result (IsPadded kernel.old kernel.new statement plan.now name) }
     ensures shaped { OnOk result (IsShaped kernel.new) }
     ensures unchanged { OnErr result (kernel.new ≡ kernel.old) }
 {
-    let Entered { nest, made, lines } = match entered(alloc, kernel, statement, plan, name) {
-        Ok(entered) => entered,
-        Err(Stop::Refused(why)) => return Err(Stop::Refused(CommandFault::Shape(why))),
-        Err(Stop::NoMemory) => return Err(Stop::NoMemory),
-    };
+    let Entered { nest, made, lines } = entered_at(alloc, kernel, statement, plan, name)?;
     test(alloc, kernel, statement, plan)?;
     put_statement(alloc, kernel, statement, nest, made, lines)?;
     Ok(())
@@ -131,6 +195,7 @@ pub fn compact_and_pad(
 ) -> Result<(), Stop<CommandFault>>
     requires { IsShaped kernel.old }
     ensures first { AnswersFirst (plan_of kernel.old statement level kind) result }
+    ensures padded { OnOk result (IfOk (plan_of kernel.old statement level kind) (λ p. IsPadded kernel.old kernel.new statement p name)) }
     ensures shaped { OnOk result (IsShaped kernel.new) }
     ensures unchanged { OnErr result (kernel.new ≡ kernel.old) }
 {

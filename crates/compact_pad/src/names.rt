@@ -1,9 +1,8 @@
 // The names of the arrays that a padding makes.
-ghost use Rattle.std.specs.Prelude.{◌≡◌, ◌≤◌, ◌+◌, length, IfOk, IsTrue};
-ghost use Rattle.one_statement.specs.Names as names;
+ghost use Rattle.std.specs.Prelude.{◌≡◌, IfOk, Some};
 ghost use Rattle.compact_pad.specs.Names as spec;
 
-use chill_base::Name;
+use chill_base::{Name, Stop};
 use inspectors::{MarkNames, RowNames};
 use nest_tree::{Kernel, ShapeWhy};
 use one_statement::{has_room, is_free, made_name};
@@ -73,23 +72,27 @@ fn row_names(prefix: Name) -> Option<RowNames>
 }
 
 /// The names of kept values and of their layout, where they can be made.
-pub fn free_kept_names(kernel: &Kernel, prefix: Name) -> Result<KeptNames, ShapeWhy> {
+pub fn free_kept_names(kernel: &Kernel, prefix: Name) -> Result<KeptNames, Stop<ShapeWhy>>
+    ensures { IfOk result (λ b. spec.kept_names prefix ≡ Some b) }
+{
     if is_kept_taken(kernel, prefix) {
-        return Err(ShapeWhy::NameTaken);
+        return Err(Stop::Refused(ShapeWhy::NameTaken));
     }
     match kept_names(prefix) {
         Some(names) if has_room(kernel, 5) => Ok(names),
-        _ => Err(ShapeWhy::Limit),
+        _ => Err(Stop::Refused(ShapeWhy::Limit)),
     }
 }
 
 /// The names of padded rows, where they can be made.
-pub fn free_row_names(kernel: &Kernel, prefix: Name) -> Result<RowNames, ShapeWhy> {
+pub fn free_row_names(kernel: &Kernel, prefix: Name) -> Result<RowNames, Stop<ShapeWhy>>
+    ensures { IfOk result (λ b. spec.row_names prefix ≡ Some b) }
+{
     if is_row_taken(kernel, prefix) {
-        return Err(ShapeWhy::NameTaken);
+        return Err(Stop::Refused(ShapeWhy::NameTaken));
     }
     match row_names(prefix) {
         Some(names) if has_room(kernel, 3) => Ok(names),
-        _ => Err(ShapeWhy::Limit),
+        _ => Err(Stop::Refused(ShapeWhy::Limit)),
     }
 }

@@ -65,14 +65,13 @@ block-rows-over params s rows n levels h =
     (all_both (is_row_over (params + 7) 4) (kept_rows params 4 (params + 4) (block_picks params) rows) _ kept (pointer-over (params + 7) 4 2 (params + 1) (params + 5) (omega arith))))
 
 pub block-fitting : (params : ℕ) (s : Sides) (arrays : KeptArrays) (rows : List KernelRow) (n levels : ℕ) → IsTrue (list_all (is_row_over n levels) rows) → AreFitting params (block_parts params s arrays rows)
-unfolding block_parts
-unfolding block_cell
+unfolding block_parts block_cell
 block-fitting params s arrays rows n levels h =
     let w : length (block_picks params) ≡ params + 7 = length-picks params _ in
     record {
       depth = omega arith;
       picks = omega (arith, w);
-      terms = rw w (kept-terms-over (params + 7) arrays _ _ _ (form-has (params + 7) _ _ _ _ _ _) (form-has (params + 7) _ _ _ _ _ _));
+      terms = rw w (kept-terms-over (params + 7) arrays (params + 1) (one (params + 7) params (pos 0)) (one (params + 7) params (pos 1)) (form-has (params + 7) _ _ _ _ _ _) (form-has (params + 7) _ _ _ _ _ _));
       rows = rw w (block-rows-over params s rows n levels h);
       cell = rw (w, form-has (params + 7) _ _ _ _ _ _, form-has (params + 7) _ _ _ _ _ _, form-has (params + 7) _ _ _ _ _ _) refl;
     }
@@ -86,23 +85,31 @@ block-within params n l =
     picks-within n params _ (omega (arith, l)) (rw (lt-ltb params n a, lt-ltb (params + 2) n b, lt-ltb (params + 3) n c, lt-ltb (params + 1) n d) refl)
 
 -- ---- diagonals
+below-has : (params : List (List ℕ)) (name : List ℕ) (row other : ℕ) → IsTrue (has_vars (length params + 5) (below params name row other))
+unfolding below
+below-has params name row other = form-has (length params + 5) _ _ _ _ _ _
+
 square-over : (params : List (List ℕ)) (m : Matrix) → IsTrue (list_all (is_row_over (length params + 5) 2) (square_rows params m))
 unfolding square_rows
-unfolding below
 square-over params m =
     let v = length params + 5 in
-    rw (bound-over v 2 2 _ (form-has v _ _ _ _ _ _) (omega arith), bound-over v 2 2 _ (form-has v _ _ _ _ _ _) (omega arith), bound-over v 2 2 _ (form-has v _ _ _ _ _ _) (omega arith), bound-over v 2 2 _ (form-has v _ _ _ _ _ _) (omega arith)) refl
+    let row = length params + 1 in
+    let kept = length params + 2 in
+    let a = bound-over v 2 2 (one v row (pos 0)) (form-has v _ _ _ _ _ _) (omega arith) in
+    let b = bound-over v 2 2 (below params m.rows row row) (below-has params m.rows row row) (omega arith) in
+    let c = bound-over v 2 2 (two v row (pos 1) kept (pos 1) (pos 0)) (form-has v _ _ _ _ _ _) (omega arith) in
+    let d = bound-over v 2 2 (below params m.cols row kept) (below-has params m.cols row kept) (omega arith) in
+    rw (a, b, c, d) refl
 
 pub diag-fitting : (params : List (List ℕ)) (m : Matrix) (arrays : KeptArrays) → AreFitting (length params) (diag_parts params m arrays)
-unfolding diag_parts
-unfolding diag_cell
+unfolding diag_parts diag_cell
 diag-fitting params m arrays =
     let w : length (diag_picks (length params)) ≡ length params + 5 = length-picks (length params) _ in
     let v = length params + 5 in
     record {
       depth = omega arith;
       picks = omega (arith, w);
-      terms = rw w (kept-terms-over v arrays _ _ _ (form-has v _ _ _ _ _ _) (form-has v _ _ _ _ _ _));
+      terms = rw w (kept-terms-over v arrays (length params) (fixed v (pos 0)) (fixed v (pos 1)) (form-has v _ _ _ _ _ _) (form-has v _ _ _ _ _ _));
       rows = rw w (all_both (is_row_over v 2) (square_rows params m) _ (square-over params m) (pointer-over v 2 1 (length params) (length params + 3) (omega arith)));
       cell = rw (w, form-has v _ _ _ _ _ _, form-has v _ _ _ _ _ _) refl;
     }

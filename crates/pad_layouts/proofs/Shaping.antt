@@ -1,5 +1,6 @@
 -- A padded statement has the shapes of statements.
-use Rattle.std.proofs.Common.{◌≡◌, ℕ, suc, ◌+◌, Bool, true, ◌&&◌, List, ◌∷◌, length, replicate, cond, refl, sym, ap, ◌∙◌, length-replicate}
+use Rattle.std.proofs.Common.{◌≡◌, ℕ, suc, ◌+◌, Bool, true, ◌&&◌, List, ◌∷◌, length, replicate, cond, refl, sym, ap, ◌∙◌}
+use Rattle.std.proofs.lemmas.List.{length-replicate}
 use Rattle.std.specs.Prelude.{IsTrue, Option, None}
 use Rattle.std.specs.List.{list_all}
 use Rattle.std.proofs.lemmas.Bool.{cond_both}

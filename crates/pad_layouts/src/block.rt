@@ -24,7 +24,11 @@ fn row_var(params: usize, sides: Sides) -> usize
     requires { params + 4 < 2 ^ 64 }
     ensures { result ≡ spec.row_var params sides }
 {
-    if sides.swapped { params + 3 } else { params + 2 }
+    if sides.swapped {
+        params + 3
+    } else {
+        params + 2
+    }
 }
 
 /// The variable of the column: the other one.
@@ -32,7 +36,11 @@ fn column_var(params: usize, sides: Sides) -> usize
     requires { params + 4 < 2 ^ 64 }
     ensures { result ≡ spec.column_var params sides }
 {
-    if sides.swapped { params + 2 } else { params + 3 }
+    if sides.swapped {
+        params + 2
+    } else {
+        params + 3
+    }
 }
 
 fn row_level(sides: Sides) -> usize
@@ -84,26 +92,45 @@ fn block_rows(
     let mut rows = kept_rows(alloc, params, 4, params + 4, picks, nest)?;
     push_pointer_rows(alloc, &mut rows, vars, 2, params + 1, params + 5)?;
     let row = row_var(params, sides);
-    push_group_rows(alloc, &mut rows, vars, row_level(sides), row, params, sides.rows)?;
+    push_group_rows(
+        alloc,
+        &mut rows,
+        vars,
+        row_level(sides),
+        row,
+        params,
+        sides.rows,
+    )?;
     let column = column_var(params, sides);
-    push_group_rows(alloc, &mut rows, vars, column_level(sides), column, kept, sides.cols)?;
+    push_group_rows(
+        alloc,
+        &mut rows,
+        vars,
+        column_level(sides),
+        column,
+        kept,
+        sides.cols,
+    )?;
     Ok(rows)
 }
 
 /// The cell of an entry: its block, its row and its column in the block.
 #[tactic(auto, unfolding(crate::specs::Kinds::block_cell))]
-fn block_cell(
-    alloc: Global,
-    params: usize,
-    sides: Sides,
-    layout: Name,
-) -> Result<Access, NoMemory>
+fn block_cell(alloc: Global, params: usize, sides: Sides, layout: Name) -> Result<Access, NoMemory>
     requires { params + 7 < 2 ^ 64 }
     ensures { IfOk result (λ a. a ≡ spec.block_cell params sides layout) }
 {
     let vars = params + 7;
     let place = one(alloc, vars, params + 1, 0)?;
-    let row = two(alloc, vars, row_var(params, sides), 1, params, negative(sides.rows), 0)?;
+    let row = two(
+        alloc,
+        vars,
+        row_var(params, sides),
+        1,
+        params,
+        negative(sides.rows),
+        0,
+    )?;
     let column = column_var(params, sides);
     let column = two(alloc, vars, column, 1, params + 4, negative(sides.cols), 0)?;
     Ok(Access {

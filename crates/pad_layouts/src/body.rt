@@ -72,9 +72,7 @@ pub fn padded_body(
 {
     match body {
         Body::Const(n) => Ok(Body::Const(*n)),
-        Body::At(access) => Ok(Body::At(padded_access(
-            alloc, picks, value, cell, access,
-        )?)),
+        Body::At(access) => Ok(Body::At(padded_access(alloc, picks, value, cell, access)?)),
         Body::Plus(a, b) => {
             let (x, y) = padded_two(alloc, picks, value, cell, a.get(), b.get())?;
             Ok(Body::Plus(x, y))

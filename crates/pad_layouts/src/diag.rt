@@ -29,11 +29,7 @@ fn below(
 
 /// The rows of the row and of the column, which is the row and the kept value.
 #[tactic(auto, unfolding(crate::specs::Kinds::square_rows))]
-fn square_rows(
-    alloc: Global,
-    params: &[Name],
-    matrix: &Matrix,
-) -> Result<List<KernelRow>, NoMemory>
+fn square_rows(alloc: Global, params: &[Name], matrix: &Matrix) -> Result<List<KernelRow>, NoMemory>
     requires { length params.now + 5 < 2 ^ 64 }
     ensures { IfOk result (λ rs. rs ≡ spec.square_rows params.now matrix.now) }
 {

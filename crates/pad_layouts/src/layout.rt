@@ -9,11 +9,7 @@ use nest_tree::Form;
 #[derive(Clone, Copy, Debug, PartialEq, Eq)]
 pub enum Layout {
     /// Dense blocks of so many rows and columns. In a block the rows are the outer loop, or the inner one where `swapped`.
-    Block {
-        rows: i64,
-        cols: i64,
-        swapped: bool,
-    },
+    Block { rows: i64, cols: i64, swapped: bool },
     /// Diagonals.
     Diag,
     /// Rows of one width.

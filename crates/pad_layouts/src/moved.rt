@@ -46,11 +46,7 @@ pub fn moved_form(alloc: Global, picks: &[Option<usize>], form: &Aff) -> Result<
     })
 }
 
-fn moved_forms(
-    alloc: Global,
-    picks: &[Option<usize>],
-    forms: &[Aff],
-) -> Result<List<Aff>, NoMemory>
+fn moved_forms(alloc: Global, picks: &[Option<usize>], forms: &[Aff]) -> Result<List<Aff>, NoMemory>
     requires { IsTrue (list_all (spec.suits picks.now) forms.now) }
     ensures { IfOk result (λ fs. fs ≡ map (spec.moved_form picks.now) forms.now) }
 {

@@ -127,12 +127,7 @@ fn inner_positions(alloc: Global, depth: usize, first: usize) -> Result<List<usi
 
 /// The statement of these parts in the place of an old one.
 #[tactic(auto, unfolding(crate::specs::Parts::padded_nest))]
-pub fn padded_nest(
-    alloc: Global,
-    value: Name,
-    nest: &Nest,
-    parts: Parts,
-) -> Result<Nest, NoMemory>
+pub fn padded_nest(alloc: Global, value: Name, nest: &Nest, parts: Parts) -> Result<Nest, NoMemory>
     requires target { IsTrue (list_all (suits parts.picks) nest.now.target.at) }
     requires value { IsTrue (suits_body parts.picks nest.now.value) }
     requires positions { 0 < length nest.now.positions }

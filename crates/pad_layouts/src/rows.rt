@@ -102,7 +102,11 @@ fn row_rows(
     let vars = row_vars(params, column);
     let mut rows = kept_rows(alloc, params, 2, params + 1, picks, nest)?;
     push_bound(&mut rows, 2, one(alloc, vars, params + 1, 0)?)?;
-    push_bound(&mut rows, 2, two(alloc, vars, params + 2, 1, params + 1, -1, -1)?)?;
+    push_bound(
+        &mut rows,
+        2,
+        two(alloc, vars, params + 2, 1, params + 1, -1, -1)?,
+    )?;
     Ok(rows)
 }
 
