@@ -3,5 +3,4 @@ pub mod Levels
 pub mod Boxes
 pub mod Reads
 pub mod Narrow
-pub mod Names
 pub mod Copied

@@ -3,17 +3,17 @@ ghost use Rattle.std.specs.Prelude.{◌≡◌, ◌<◌, ◌≤◌, ◌+◌, ◌-
 ghost use Rattle.nest_core.specs.Shapes.{IsShaped};
 ghost use Rattle.datacopy.specs.Boxes.{IsReadBox};
 ghost use Rattle.datacopy.specs.Copied.{first_shape, GivesFirst, AnswersFirst, IsCopied, AreCounted};
-ghost use Rattle.datacopy.specs.Names as spec;
+ghost use Rattle.one_statement.specs.Names as spec;
 
 use crate::enter::enter;
 use crate::limits::{box_extents, has_room};
-use crate::names::is_free;
 use crate::nests::copied_nests;
 use crate::shapes::copied_box;
 use crate::side::Side;
 use chill_base::{List, Name, Stop};
 use nest_limits::are_within;
 use nest_tree::{CommandFault, Kernel, Nest, ShapeWhy};
+use one_statement::is_free;
 use std::alloc::Global;
 
 /// A box that can be copied.

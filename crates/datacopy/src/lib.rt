@@ -11,7 +11,6 @@ mod enter;
 mod extents;
 mod levels;
 mod limits;
-mod names;
 mod narrow;
 mod nests;
 mod reads;

@@ -1,0 +1,5 @@
+pub mod Names
+pub mod Made
+pub mod Entering
+pub mod Padded
+pub mod Answers

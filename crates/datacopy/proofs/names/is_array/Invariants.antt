@@ -1,6 +1,0 @@
-use Rattle.std.proofs.Common.{◌≡◌, drop}
-use Rattle.datacopy.specs.Names.{is_array}
-use Rattle.datacopy.proofs.names.is_array.Given as goal
-
-abbrev pub invariant-loop-array : goal.invariant-loop-array
-invariant-loop-array l = is_array (drop l.array-index l.arrays) l.name ≡ is_array l.arrays l.name

@@ -1,6 +1,0 @@
-use Rattle.std.proofs.Common.{◌≡◌, drop}
-use Rattle.datacopy.specs.Names.{is_made}
-use Rattle.datacopy.proofs.names.is_made.Given as goal
-
-abbrev pub invariant-loop-array : goal.invariant-loop-array
-invariant-loop-array l = is_made (drop l.array-index l.made) l.name ≡ is_made l.made l.name

@@ -1,0 +1,4 @@
+pub mod Found
+pub mod Fitted
+pub mod Moved
+pub mod Densed

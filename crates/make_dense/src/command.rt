@@ -1,0 +1,110 @@
+// `make_dense`: a level for the columns before one that goes over the entries of a row.
+ghost use Rattle.std.specs.Prelude.{◌≡◌, ◌≤◌, ◌<◌, length, slice_get, Some, Ok, IfOk, OnOk, OnErr};
+ghost use Rattle.nest_core.specs.Shapes.{IsShapedNest, IsShaped};
+ghost use Rattle.make_dense.specs.Judge.{judged_matrix};
+ghost use Rattle.make_dense.specs.Dense as spec;
+
+use crate::dense::dense_nest;
+use crate::judge::judged_matrix;
+use crate::moves::moves_with;
+use crate::piece::dense_piece;
+use c_tree::Matrix;
+use chill_base::{List, Stop};
+use depend_test::{first_dependence, overflow};
+use nest_tree::{CommandFault, Kernel, Nest};
+use one_statement::put_statement;
+use std::alloc::Global;
+
+/// Whether the new level keeps the order of all instances that name one cell by conflicting accesses.
+fn test_order(
+    alloc: Global,
+    kernel: &Kernel,
+    statement: usize,
+    nest: &Nest,
+    level: usize,
+    matrix: Matrix,
+) -> Result<(), Stop<CommandFault>>
+    requires shaped { IsShaped kernel.now }
+    requires found { slice_get kernel.now.nests statement ≡ Some nest.now }
+    requires low { 1 ≤ level }
+    requires high { level ≤ length nest.now.levels }
+    requires room { length nest.now.levels < 8 }
+{
+    let piece = dense_piece(alloc, &kernel.head, nest, level, matrix)?;
+    let moves = moves_with(alloc, kernel, statement, nest, piece)?;
+    match first_dependence(alloc, kernel, &moves) {
+        Ok(None) => Ok(()),
+        Ok(Some(dependence)) => Err(Stop::Refused(CommandFault::Depends(dependence))),
+        Err(stop) => Err(overflow(stop)),
+    }
+}
+
+/// The statement with its new level, tested.
+fn tested_nest(
+    alloc: Global,
+    kernel: &Kernel,
+    statement: usize,
+    level: usize,
+    matrix: Matrix,
+) -> Result<Nest, Stop<CommandFault>>
+    requires shaped { IsShaped kernel.now }
+    requires judged { judged_matrix kernel.now statement level ≡ Ok matrix }
+    ensures dense { IfOk result (λ n. spec.IsMadeOf kernel.now statement level matrix n) }
+    ensures shaped { IfOk result (λ n. IsShapedNest kernel.now.head n) }
+{
+    let nest = &kernel.nests.as_slice()[statement];
+    let dense = match dense_nest(alloc, &kernel.head, nest, level, matrix) {
+        Ok(dense) => dense,
+        Err(stop) => return Err(overflow(stop)),
+    };
+    test_order(alloc, kernel, statement, nest, level, matrix)?;
+    Ok(dense)
+}
+
+/// Puts the statement with its new level in the place of the old one.
+fn put_dense(
+    alloc: Global,
+    kernel: &mut Kernel,
+    statement: usize,
+    level: usize,
+    matrix: Matrix,
+) -> Result<(), Stop<CommandFault>>
+    requires shaped { IsShaped kernel.old }
+    requires judged { judged_matrix kernel.old statement level ≡ Ok matrix }
+    ensures shaped { OnOk result (IsShaped kernel.new) }
+    ensures unchanged { OnErr result (kernel.new ≡ kernel.old) }
+    ensures dense { OnOk result (spec.IsMadeDense kernel.old kernel.new statement level matrix) }
+{
+    let dense = tested_nest(alloc, kernel, statement, level, matrix)?;
+    put_statement(
+        alloc,
+        kernel,
+        statement,
+        dense,
+        List::new(alloc),
+        List::new(alloc),
+    )?;
+    Ok(())
+}
+
+/// A level for the columns of a matrix goes in before the level, which must go over the entries of one of the matrix's rows:
+/// to each column, in order, come the entries that stand in it. The subscripts of the statement's cells name the new level
+/// where they held the entry's column.
+pub fn make_dense(
+    alloc: Global,
+    kernel: &mut Kernel,
+    statement: usize,
+    level: usize,
+) -> Result<(), Stop<CommandFault>>
+    requires { IsShaped kernel.old }
+    ensures shaped { OnOk result (IsShaped kernel.new) }
+    ensures unchanged { OnErr result (kernel.new ≡ kernel.old) }
+    ensures shape { spec.Refuses (judged_matrix kernel.old statement level) result }
+    ensures dense { OnOk result (spec.IsDense kernel.old kernel.new statement level (judged_matrix kernel.old statement level)) }
+{
+    match judged_matrix(alloc, kernel, statement, level) {
+        Ok(matrix) => put_dense(alloc, kernel, statement, level, matrix),
+        Err(Stop::Refused(why)) => Err(Stop::Refused(CommandFault::Shape(why))),
+        Err(Stop::NoMemory) => Err(Stop::NoMemory),
+    }
+}

@@ -1,0 +1,15 @@
+use Rattle.std.proofs.Common.{◌≡◌, ◌+◌, ◌≤◌, arith, length, rules, ap}
+use Rattle.nest_core.specs.Shapes.{vars_of}
+use Rattle.pad_layouts.specs.Kinds.{block_parts}
+use Rattle.pad_layouts.proofs.Fitting.{block-fitting, block-within}
+use Rattle.pad_layouts.proofs.statement.block_nest.Goals as goal
+
+pub shaped_nest-requires-clause-fitting : goal.shaped_nest-requires-clause-fitting
+shaped_nest-requires-clause-fitting c =
+    rw (c.in_ok-parts.ensures, ap length c.as_slice-params.ensures) (block-fitting (length c.args.head.now.params) c.args.sides c.args.arrays.now c.args.nest.now.rows _ _ c.requires.shaped.rows)
+
+pub shaped_nest-requires-clause-picks : goal.shaped_nest-requires-clause-picks
+unfolding block_parts
+shaped_nest-requires-clause-picks c =
+    let l : length c.args.head.now.params + 5 ≤ vars_of (length c.args.head.now.params) c.args.nest.now = omega (arith, c.requires.depth) in
+    rw (c.in_ok-parts.ensures, ap length c.as_slice-params.ensures) (block-within (length c.args.head.now.params) _ l)
