@@ -16,9 +16,7 @@ use Rattle.recipe_read.specs.declared.command.Command.{Command}
 use Rattle.recipe_read.specs.declared.recipe.RecipeFault.{RecipeFault}
 use Rattle.recipe_read.specs.Recipe as recipes
 use Rattle.outcomes.specs.declared.outcome.Refusal.{Refusal}
-use Rattle.outcomes.specs.declared.outcome.Refusal.TheVariants.{Recipe, Program as ProgramRefused, Source, Command as CommandRefused, Scan, NotYet}
-use Rattle.std.specs.List.{list_all}
-use Rattle.kernel_commands.specs.Built.{is_built}
+use Rattle.outcomes.specs.declared.outcome.Refusal.TheVariants.{Recipe, Program as ProgramRefused, Source, Command as CommandRefused, Scan}
 
 -- the program that is written for a program, if it is of the first form
 unfoldable pub written_for : Program → Option Program
@@ -29,9 +27,9 @@ abbrev pub as_it_stands : List Command → Program → Option Program
 as_it_stands [] p = written_for p
 as_it_stands (c ∷ cs) p = None
 
--- why a recipe is refused: its first bad line, or too many commands; or a command of it isn't built yet
+-- why a recipe is refused: its first bad line, or too many commands
 abbrev pub RecipeCause : Result (List Command) RecipeFault → Refusal → Type 0
-RecipeCause (Ok commands) refusal = (list_all is_built commands ≡ false) × (refusal ≡ NotYet 1)
+RecipeCause (Ok commands) refusal = ⊥
 RecipeCause (Err fault) refusal = refusal ≡ Recipe fault
 
 -- a refusal of a program that is read: it isn't accepted, one of so many commands is refused, or the statements can't be written
@@ -101,9 +99,9 @@ pub record Denies (recipe source : List ℕ) (refusal : Refusal) : Type 0 where
 abbrev pub EmitCause : (recipe source : List ℕ) → Refusal → Type 0
 EmitCause recipe source refusal = RecipeCause (recipes.recipe recipe) refusal ⊎ Denies recipe source refusal
 
--- the recipe has these commands, and all are built
+-- the recipe has these commands
 abbrev pub HasCommands : List ℕ → List Command → Type 0
-HasCommands recipe commands = (recipes.recipe recipe ≡ Ok commands) × (list_all is_built commands ≡ true)
+HasCommands recipe commands = recipes.recipe recipe ≡ Ok commands
 
 abbrev pub IsRecipe : List ℕ → Type 0
 IsRecipe recipe = (commands : List Command) × HasCommands recipe commands

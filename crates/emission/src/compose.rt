@@ -1,7 +1,5 @@
 // The text that a recipe makes of a source.
-ghost use Rattle.std.specs.Prelude.{◌≡◌, Ok, Some, None, IfOk, IfErr, length, true};
-ghost use Rattle.std.specs.List.{list_all};
-ghost use Rattle.kernel_commands.specs.Built.{is_built};
+ghost use Rattle.std.specs.Prelude.{◌≡◌, Ok, Some, None, IfOk, IfErr, length};
 ghost use Rattle.c_judge.specs.Rules.{KeepsRules};
 ghost use Rattle.source_limits.specs.Executor.{HasExecutor};
 ghost use Rattle.recipe_read.specs.Recipe as recipes;
@@ -36,7 +34,6 @@ fn standing(
 
 /// The program that is written.
 fn written(alloc: Global, commands: &[Command], program: &Program) -> Result<Program, Stop<Refusal>>
-    requires built { list_all is_built commands.now ≡ true }
     requires rules { KeepsRules program.now }
     requires executor { HasExecutor program.now }
     ensures ok { IfOk result (λ q. IsFor (as_it_stands commands.now program.now) q) }
@@ -52,7 +49,6 @@ fn written(alloc: Global, commands: &[Command], program: &Program) -> Result<Pro
 /// The text that the commands make of a source.
 #[tactic(auto, using(crate::proofs::Promise::is_written, crate::proofs::Promise::has_executor))]
 fn emitted(alloc: Global, commands: &[Command], source: &[u8]) -> Result<Text, Stop<Refusal>>
-    requires { list_all is_built commands.now ≡ true }
     ensures ok { IfOk result (λ text. IsWritten commands.now source.now text) }
     ensures refused { IfErr result (IfRefused (SourceCause commands.now (program_of source.now))) }
 {

@@ -1,7 +1,5 @@
 // Programs that go through a kernel.
-ghost use Rattle.std.specs.Prelude.{◌≡◌, ◌≤◌, length, OnOk, OnErr, IfOk, IfErr, IsTrue, true};
-ghost use Rattle.std.specs.List.{list_all};
-ghost use Rattle.kernel_commands.specs.Built.{is_built};
+ghost use Rattle.std.specs.Prelude.{◌≡◌, ◌≤◌, length, OnOk, OnErr, IfOk, IfErr};
 ghost use Rattle.c_judge.specs.Rules.{KeepsRules};
 ghost use Rattle.source_limits.specs.Executor.{HasExecutor};
 ghost use Rattle.nest_core.specs.Shapes.{IsShaped};
@@ -46,7 +44,6 @@ fn refused(stop: Stop<CommandFault>, number: usize, count: usize) -> Stop<Refusa
 /// Applies the commands in order.
 fn apply_all(alloc: Global, kernel: &mut Kernel, commands: &[Command]) -> Result<(), Stop<Refusal>>
     requires shaped { IsShaped kernel.old }
-    requires built { list_all is_built commands.now ≡ true }
     ensures shaped { OnOk result (IsShaped kernel.new) }
     ensures refused { IfErr result (IfRefused (IsLater (length commands.now))) }
 {
@@ -76,7 +73,6 @@ pub fn through_kernel(
     commands: &[Command],
     program: &Program,
 ) -> Result<Program, Stop<Refusal>>
-    requires built { list_all is_built commands.now ≡ true }
     requires rules { KeepsRules program.now }
     requires executor { HasExecutor program.now }
     ensures refused { IfErr result (IfRefused (IsLater (length commands.now))) }

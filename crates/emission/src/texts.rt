@@ -1,7 +1,5 @@
 // The commands of a recipe, and the program of a text.
 ghost use Rattle.std.specs.Prelude.{◌≡◌, Ok, IfOk, IfErr};
-ghost use Rattle.std.specs.List.{list_all};
-ghost use Rattle.kernel_commands.specs.Built.{is_built};
 ghost use Rattle.c_tokens.specs.Pieces.{tokens_of};
 ghost use Rattle.c_grammar.specs.Program.{IsProgram};
 ghost use Rattle.c_judge.specs.Rules.{KeepsRules};
@@ -13,29 +11,17 @@ ghost use Rattle.emission.specs.Refusing.{IfRefused};
 use c_loops::read_program;
 use c_tree::Program;
 use chill_base::{List, Stop};
-use kernel_commands::is_built;
 use outcomes::Refusal;
 use recipe_read::{Command, read_recipe};
 use std::alloc::Global;
 
-fn are_built(commands: &[Command]) -> bool
-    ensures { result ≡ list_all is_built commands.now }
-{
-    commands.iter().all(|command| is_built(command))
-}
-
-/// The commands of a recipe, all of which are built.
+/// The commands of a recipe.
 pub fn commands_of(alloc: Global, recipe: &[u8]) -> Result<List<Command>, Stop<Refusal>>
     ensures ok { IfOk result (λ commands. HasCommands recipe.now commands) }
     ensures refused { IfErr result (IfRefused (RecipeCause (recipes.recipe recipe.now))) }
 {
     match read_recipe(alloc, recipe) {
-        Ok(commands) => {
-            if !are_built(commands.as_slice()) {
-                return Err(Stop::Refused(Refusal::NotYet { file: 1 }));
-            }
-            Ok(commands)
-        }
+        Ok(commands) => Ok(commands),
         Err(Stop::Refused(fault)) => Err(Stop::Refused(Refusal::Recipe(fault))),
         Err(Stop::NoMemory) => Err(Stop::NoMemory),
     }

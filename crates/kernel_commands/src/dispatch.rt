@@ -1,12 +1,14 @@
 // One command of a recipe, applied to a kernel.
-ghost use Rattle.std.specs.Prelude.{◌≡◌, OnOk, OnErr, IsTrue};
+ghost use Rattle.std.specs.Prelude.{◌≡◌, OnOk, OnErr};
 ghost use Rattle.nest_core.specs.Shapes.{IsShaped};
 ghost use Rattle.kernel_commands.specs.Done.{IsDone};
-ghost use Rattle.kernel_commands.specs.Built.{is_built};
 
 use affine_commands::{distribute, fuse, permute, shift, skew, tile, unroll};
 use chill_base::Stop;
+use compact::compact;
+use compact_pad::compact_and_pad;
 use datacopy::datacopy;
+use make_dense::make_dense;
 use nest_tree::{CommandFault, Kernel};
 use recipe_read::Command;
 use std::alloc::Global;
@@ -17,8 +19,7 @@ pub fn apply(
     kernel: &mut Kernel,
     command: &Command,
 ) -> Result<(), Stop<CommandFault>>
-    requires shaped { IsShaped kernel.old }
-    requires built { IsTrue (is_built command.now) }
+    requires { IsShaped kernel.old }
     ensures shaped { OnOk result (IsShaped kernel.new) }
     ensures refused { OnErr result (kernel.new ≡ kernel.old) }
     ensures done { OnOk result (IsDone kernel.old kernel.new command.now) }
@@ -60,8 +61,17 @@ pub fn apply(
             array,
             copy,
         } => datacopy(alloc, kernel, *statement, *level, *array, *copy),
-        Command::MakeDense { .. } => unreachable!(),
-        Command::Compact { .. } => unreachable!(),
-        Command::CompactAndPad { .. } => unreachable!(),
+        Command::MakeDense { statement, level } => make_dense(alloc, kernel, *statement, *level),
+        Command::Compact {
+            statement,
+            level,
+            name,
+        } => compact(alloc, kernel, *statement, *level, *name),
+        Command::CompactAndPad {
+            statement,
+            level,
+            kind,
+            name,
+        } => compact_and_pad(alloc, kernel, *statement, *level, *kind, *name),
     }
 }

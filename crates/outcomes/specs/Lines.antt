@@ -33,7 +33,7 @@ use Rattle.c_run.specs.declared.fault.RunFault.TheVariants as run
 use Rattle.outcomes.specs.declared.outcome.Outcome.{Outcome}
 use Rattle.outcomes.specs.declared.outcome.Outcome.TheVariants.{Done, Refused, Usage, ReadFault, WriteFault, NoMemory}
 use Rattle.outcomes.specs.declared.outcome.Refusal.{Refusal}
-use Rattle.outcomes.specs.declared.outcome.Refusal.TheVariants.{FileLong, Recipe, Program, Source, Command, Scan, Values, Run, NotYet}
+use Rattle.outcomes.specs.declared.outcome.Refusal.TheVariants.{FileLong, Recipe, Program, Source, Command, Scan, Values, Run}
 use Rattle.outcomes.specs.Words.{joined, place_text}
 
 -- ---- recipes and programs
@@ -146,7 +146,6 @@ refusal_line (Command number fault) = command_line number fault
 refusal_line (Scan fault) = scan_line fault
 refusal_line (Values fault) = values_line fault
 refusal_line (Run fault) = run_line fault
-refusal_line (NotYet file) = joined (codes "chill: file " ∷ decimal file ∷ codes ": not yet\n" ∷ [])
 
 -- one line for each outcome other than `Done`
 abbrev pub line_of : Outcome → List ℕ

@@ -54,6 +54,5 @@ fn say_refusal<E: Sink>(err: &mut E, refusal: &Refusal)
         Refusal::Scan(fault) => say_scan(err, *fault),
         Refusal::Values(fault) => say_values(err, fault),
         Refusal::Run(fault) => say_run(err, fault),
-        Refusal::NotYet { file } => say_file(err, *file, ": not yet\n"),
     }
 }

@@ -42,8 +42,6 @@ pub enum Refusal {
     Values(ValuesFault),
     /// The run has a fault.
     Run(RunFault),
-    /// The file asks for something that isn't built yet.
-    NotYet { file: u8 },
 }
 
 /// The exit status of an outcome.
