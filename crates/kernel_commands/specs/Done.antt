@@ -9,7 +9,7 @@ use Rattle.fuse_distribute.specs.Distributing.{distribute_moves}
 use Rattle.unroll.specs.Moves.{unrolled}
 use Rattle.affine_commands.specs.Commands.{IsMade, IsMoved, IsUnrolled, untested}
 use Rattle.datacopy.specs.Copied.{IsCopied}
-use Rattle.make_dense.specs.Judged.{judged_matrix}
+use Rattle.make_dense.specs.Judge.{judged_matrix}
 use Rattle.make_dense.specs.Dense.{IsDense}
 use Rattle.compact.specs.Entered.{IsCompacted}
 use Rattle.pad_layouts.specs.Plans.{plan_of}
