@@ -79,6 +79,10 @@ pub images-vars : (params : ℕ) (n : Nest) (level : ℕ) (column : List ℕ) �
 unfolding column_images
 images-vars params n level column = refl
 
+pub images-room : (params : ℕ) (n : Nest) (level : ℕ) (column : List ℕ) → (column_images params n level column).params ≤ (column_images params n level column).vars
+unfolding column_images
+images-room params n level column = omega arith
+
 pub cells-shaped : (head : Program) (n : Nest) (target : Access) (value : Body) → IsShapedNest head n → IsTrue (is_access_over (vars_of (length head.params) n) target) → IsTrue (is_body_over (vars_of (length head.params) n) value)
     → IsShapedNest head (with_cells n target value)
 cells-shaped head n target value s t v = record {

@@ -1,5 +1,5 @@
 -- The piece for a new level fits the statement.
-use Rattle.std.proofs.Common.{◌≡◌, ℕ, zero, suc, arith, ◌<◌, ◌≤◌, ◌+◌, ◌-◌, Bool, true, false, ◌&&◌, ◌||◌, not, cond, nat_eq, nat_lt, nat_le, List, [], ◌∷◌, ◌++◌, length, map, take, drop, replicate, refl, sym, ap, ◌∙◌, ℤ, pos, negsuc, length-append, length-take, length-drop, eq-eqb}
+use Rattle.std.proofs.Common.{◌≡◌, ℕ, zero, suc, arith, ◌<◌, ◌≤◌, ◌+◌, ◌-◌, Bool, true, false, ◌&&◌, ◌||◌, not, cond, nat_eq, nat_lt, nat_le, List, [], ◌∷◌, ◌++◌, length, map, take, drop, replicate, refl, sym, ap, ◌∙◌, ℤ, pos, negsuc, length-append, length-take, length-drop, eq-eqb, le-leb}
 use Rattle.std.specs.Prelude.{IsTrue, Option, Some, None, IfSome, Ok, insert, slice_get}
 use Rattle.std.specs.List.{list_all, range_with_len, AllByRecursion}
 use Rattle.std.proofs.Math.Facts.{leb_yes}
@@ -34,11 +34,18 @@ weaker : (o : Option ℕ) (a b : ℕ) → a ≡ b → IfSome o (λ k. k < a) →
 weaker None a b e h = tt
 weaker (Some k) a b e h = omega (arith, e, h)
 
-pub find_read-below : (array : List ℕ) (v k : ℕ) (ts : List Term) → IfSome (find_read array v k ts) (λ j. j < k + length ts)
+find_read-below : (array : List ℕ) (v k : ℕ) (ts : List Term) → IfSome (find_read array v k ts) (λ j. j < k + length ts)
 find_read-below array v k [] = tt
 find_read-below array v k (t ∷ ts) =
     cond_both (reads_at array v (pos 0) t) (Some k) (find_read array v (suc k) ts) (λ (o : Option ℕ). IfSome o (λ j. j < k + suc (length ts)))
     (λ _. omega arith) (λ _. weaker (find_read array v (suc k) ts) (suc k + length ts) (k + suc (length ts)) (omega arith) (find_read-below array v (suc k) ts))
+
+pub find_read-within : (array : List ℕ) (v : ℕ) (ts : List Term) → IfSome (find_read array v 0 ts) (λ j. j < length ts)
+find_read-within array v ts = weaker (find_read array v 0 ts) (0 + length ts) (length ts) (omega arith) (find_read-below array v 0 ts)
+
+pub further-few : (o : Option ℕ) → further o ≤ 1
+further-few None = omega arith
+further-few (Some k) = omega arith
 
 -- ---- the forms
 new_place-below : (level d l : ℕ) → l < d → new_place level l < suc d
@@ -81,7 +88,7 @@ module _ (q : Places) (low : 1 ≤ q.level) (high : q.level ≤ q.depth) where
       let own : q.level ≤ suc q.depth = omega (arith, high) in
       true-and _ _ (bound-over (vars q) (suc q.depth) q.level (unit (vars q) (dense_var q)) own dense-holds)
       (true-and _ _ (bound-over (vars q) (suc q.depth) q.level (below_columns ps q columns) own (below-holds ps columns e))
-      (true-and _ _ (rw (difference-holds (dense_var q) (column_var q)) refl) refl))
+      (true-and _ _ (rw (difference-holds (dense_var q) (column_var q), le-leb 0 (suc q.depth) (omega arith)) refl) refl))
 
   pub terms-over : (array : List ℕ) (o : Option ℕ) → list_all (is_term_over (vars q)) (terms_for o (column_read q array)) ≡ true
   terms-over array None = rw entry-holds refl
