@@ -1,16 +1,13 @@
 -- The statement with its new level has the shapes of statements.
-use Rattle.std.proofs.Common.{◌≡◌, ℕ, suc, arith, ◌<◌, ◌≤◌, ◌+◌, ◌-◌, true, Bool, List, [], ◌∷◌, ◌++◌, length, map, refl, sym, ap, ◌∙◌, ℤ, pos, length-append}
-use Rattle.std.specs.Prelude.{Result, Ok, Err, IfOk, IsTrue, insert}
-use Rattle.std.specs.List.{list_all, range_with_len, AllByRecursion}
+use Rattle.std.proofs.Common.{◌≡◌, ℕ, suc, arith, ◌<◌, ◌≤◌, ◌+◌, ◌-◌, true, List, [], ◌∷◌, length, refl, ap, ◌∙◌, length-append}
+use Rattle.std.specs.Prelude.{Result, Ok, IfOk, IsTrue, insert}
 use Rattle.std.proofs.lemmas.List.FromFn.{length-map-range_with_len}
 use Rattle.chill_base.specs.declared.faults.Stop.{Stop}
-use Rattle.chill_base.specs.declared.faults.Stop.TheVariants.{Refused, NoMemory}
 use Rattle.c_tree.specs.declared.program.Matrix.{Matrix}
 use Rattle.c_tree.specs.declared.program.Program.{Program}
 use Rattle.int_rows.specs.declared.row.Excess.{Excess}
 use Rattle.nest_tree.specs.declared.body.Access.{Access}
 use Rattle.nest_tree.specs.declared.body.Body.{Body}
-use Rattle.nest_tree.specs.declared.form.Form.{Form}
 use Rattle.nest_tree.specs.declared.kernel.Nest.{Nest}
 use Rattle.nest_tree.specs.declared.kernel.Term.{Term}
 use Rattle.nest_tree.specs.declared.moves.Piece.{Piece}

@@ -1,15 +1,13 @@
 -- The piece for a new level fits the statement.
-use Rattle.std.proofs.Common.{◌≡◌, ℕ, zero, suc, arith, ◌<◌, ◌≤◌, ◌+◌, ◌-◌, Bool, true, false, ◌&&◌, ◌||◌, not, cond, nat_eq, nat_lt, nat_le, List, [], ◌∷◌, ◌++◌, length, map, take, drop, replicate, refl, sym, ap, ◌∙◌, ℤ, pos, negsuc, length-append, length-take, length-drop, eq-eqb, le-leb}
-use Rattle.std.specs.Prelude.{IsTrue, Option, Some, None, IfSome, Ok, insert, slice_get}
-use Rattle.std.specs.List.{list_all, range_with_len, AllByRecursion}
+use Rattle.std.proofs.Common.{◌≡◌, ℕ, zero, suc, arith, ◌<◌, ◌≤◌, ◌+◌, ◌-◌, true, ◌&&◌, ◌||◌, not, nat_eq, nat_lt, nat_le, List, [], ◌∷◌, ◌++◌, length, map, refl, sym, ap, ◌∙◌, ℤ, pos, negsuc, length-append, length-take, length-drop, eq-eqb, le-leb}
+use Rattle.std.specs.Prelude.{Option, Some, None, IfSome, insert, slice_get}
+use Rattle.std.specs.List.{list_all, range_with_len}
 use Rattle.std.proofs.Math.Facts.{leb_yes}
 use Rattle.std.proofs.lemmas.Bool.{cond_both, eqb-true}
 use Rattle.std.proofs.lemmas.List.{length-map}
 use Rattle.std.proofs.lemmas.List.FromFn.{length-map-range_with_len}
 use Rattle.c_tree.specs.declared.program.Matrix.{Matrix}
 use Rattle.c_tree.specs.declared.program.Program.{Program}
-use Rattle.int_rows.specs.declared.row.Aff.{Aff}
-use Rattle.nest_tree.specs.declared.form.Form.{Form}
 use Rattle.nest_tree.specs.declared.kernel.KernelRow.{KernelRow}
 use Rattle.nest_tree.specs.declared.kernel.Nest.{Nest}
 use Rattle.nest_tree.specs.declared.kernel.Term.{Term}
@@ -24,7 +22,7 @@ use Rattle.affine_moves.proofs.Holding.{HoldsOne, unit-holds, last_held-level, l
 use Rattle.make_dense.specs.declared.places.Places.{Places}
 use Rattle.make_dense.specs.Forms.{difference, find_read, reads_at}
 use Rattle.make_dense.specs.Places.{vars, further, place_or, dense_var, entry_var, column_var, new_place}
-use Rattle.make_dense.specs.Piece.{places_of, old_form, below_columns, at_column, dense_rows, column_read, terms_for, dense_terms, dense_form, dense_piece}
+use Rattle.make_dense.specs.Piece.{places_of, old_form, below_columns, dense_rows, column_read, terms_for, dense_terms, dense_form, dense_piece}
 
 pub length-inserted : {A : Type 0} (xs : List A) (i : ℕ) (x : A) → i ≤ length xs → length (insert xs i x) ≡ suc (length xs)
 length-inserted xs i x l = grind (arith, length-append, length-take, length-drop)

@@ -1,25 +1,22 @@
 -- The moves that give one statement a piece that fits it, fit the kernel; and the statement that a judgement speaks of.
-use Rattle.std.proofs.Common.{◌≡◌, ℕ, zero, suc, arith, ◌<◌, ◌≤◌, ◌+◌, Bool, true, false, not, ◌&&◌, cond, nat_le, List, [], ◌∷◌, ◌++◌, length, map, take, drop, get_or, refl, sym, ap, ◌∙◌, add-one, inl, inr, le-leb, leb-true}
+use Rattle.std.proofs.Common.{◌≡◌, ℕ, zero, suc, arith, ◌<◌, ◌≤◌, Bool, true, false, cond, nat_le, List, [], ◌∷◌, ◌++◌, length, take, drop, get_or, refl, sym, ◌∙◌, add-one, inl, inr, le-leb, leb-true}
 use Rattle.std.specs.Prelude.{Option, Some, None, Result, Ok, Err, IfOk, slice_get}
-use Rattle.std.specs.List.{range_with_len, AllByRecursion}
+use Rattle.std.specs.List.{AllByRecursion}
 use Rattle.std.proofs.lemmas.Bool.{cases_lt}
 use Rattle.std.proofs.lemmas.List.FromFn.{length-map-range_with_len}
 use Rattle.c_tree.specs.declared.program.Matrix.{Matrix}
 use Rattle.c_tree.specs.declared.program.Program.{Program}
-use Rattle.nest_tree.specs.declared.fault.ShapeWhy.{ShapeWhy}
 use Rattle.nest_tree.specs.declared.kernel.Kernel.{Kernel}
 use Rattle.nest_tree.specs.declared.kernel.Nest.{Nest}
 use Rattle.nest_tree.specs.declared.moves.Piece.{Piece}
-use Rattle.nest_core.specs.Making.{after}
 use Rattle.nest_core.specs.Shapes.{IsShapedNest, FitsNest, AllFit, IsShaped, Fits, count_pieces}
 use Rattle.nest_core.proofs.Kept.{after_ok, and}
 use Rattle.affine_moves.specs.Change.{is_level}
 use Rattle.affine_moves.specs.Moves.{only}
 use Rattle.affine_moves.proofs.Standing.{piece_at-fits}
 use Rattle.one_statement.specs.Alone.{any_shares}
-use Rattle.make_dense.specs.Bounds.{matrix_of}
 use Rattle.make_dense.specs.Dense.{stays, pieces_with, moves_with, dense_nest, IsMadeOf}
-use Rattle.make_dense.specs.Judge.{or_shape, matrix_at, has_place, nest_matrix, matrix_for, judged_matrix, IsJudged}
+use Rattle.make_dense.specs.Judge.{matrix_at, has_place, matrix_for, judged_matrix, IsJudged}
 
 pub found-below : {A : Type 0} (xs : List A) (i : ℕ) (x : A) → slice_get xs i ≡ Some x → i < length xs
 found-below [] i x e = absurd cc

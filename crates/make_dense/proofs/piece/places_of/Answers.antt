@@ -1,4 +1,4 @@
-use Rattle.std.proofs.Common.{rules, arith, suc, ◌+◌, ◌<◌, ◌^◌, length}
+use Rattle.std.proofs.Common.{rules, arith, suc, ◌+◌, ◌-◌, ◌<◌, ◌^◌, length}
 use Rattle.make_dense.proofs.Fitted.{find_read-within, further-few}
 use Rattle.make_dense.proofs.piece.places_of.Goals as goal
 
@@ -9,6 +9,6 @@ returns-clause-places c =
     record {
       low = c.requires.low;
       high = rw c.len.ensures c.requires.high;
-      column = rw c.find_read.ensures (find_read-within _ _ _);
+      column = rw c.find_read.ensures (find_read-within c.args.matrix.now.col (length c.as_slice-params.result.now + (c.args.level - 1)) c.as_slice-terms.result.now);
       room = omega (arith, few, room);
     }
