@@ -1,16 +1,13 @@
 -- The statement with its new level has the shapes of statements.
-use Rattle.std.proofs.Common.{◌≡◌, ℕ, suc, arith, ◌<◌, ◌≤◌, ◌+◌, ◌-◌, true, Bool, List, [], ◌∷◌, ◌++◌, length, map, refl, sym, ap, ◌∙◌, ℤ, pos, length-append}
-use Rattle.std.specs.Prelude.{Result, Ok, Err, IfOk, IsTrue, insert}
-use Rattle.std.specs.List.{list_all, range_with_len, AllByRecursion}
+use Rattle.std.proofs.Common.{◌≡◌, ℕ, suc, arith, ◌<◌, ◌≤◌, ◌+◌, ◌-◌, true, List, [], ◌∷◌, length, refl, ap, ◌∙◌, length-append}
+use Rattle.std.specs.Prelude.{Result, Ok, IfOk, IsTrue, insert}
 use Rattle.std.proofs.lemmas.List.FromFn.{length-map-range_with_len}
 use Rattle.chill_base.specs.declared.faults.Stop.{Stop}
-use Rattle.chill_base.specs.declared.faults.Stop.TheVariants.{Refused, NoMemory}
 use Rattle.c_tree.specs.declared.program.Matrix.{Matrix}
 use Rattle.c_tree.specs.declared.program.Program.{Program}
 use Rattle.int_rows.specs.declared.row.Excess.{Excess}
 use Rattle.nest_tree.specs.declared.body.Access.{Access}
 use Rattle.nest_tree.specs.declared.body.Body.{Body}
-use Rattle.nest_tree.specs.declared.form.Form.{Form}
 use Rattle.nest_tree.specs.declared.kernel.Nest.{Nest}
 use Rattle.nest_tree.specs.declared.kernel.Term.{Term}
 use Rattle.nest_tree.specs.declared.moves.Piece.{Piece}
@@ -78,6 +75,10 @@ images-params params n level column = refl
 pub images-vars : (params : ℕ) (n : Nest) (level : ℕ) (column : List ℕ) → (column_images params n level column).vars ≡ vars_of params n
 unfolding column_images
 images-vars params n level column = refl
+
+pub images-room : (params : ℕ) (n : Nest) (level : ℕ) (column : List ℕ) → (column_images params n level column).params ≤ (column_images params n level column).vars
+unfolding column_images
+images-room params n level column = omega arith
 
 pub cells-shaped : (head : Program) (n : Nest) (target : Access) (value : Body) → IsShapedNest head n → IsTrue (is_access_over (vars_of (length head.params) n) target) → IsTrue (is_body_over (vars_of (length head.params) n) value)
     → IsShapedNest head (with_cells n target value)

@@ -1,15 +1,13 @@
 -- The piece for a new level fits the statement.
-use Rattle.std.proofs.Common.{◌≡◌, ℕ, zero, suc, arith, ◌<◌, ◌≤◌, ◌+◌, ◌-◌, Bool, true, false, ◌&&◌, ◌||◌, not, cond, nat_eq, nat_lt, nat_le, List, [], ◌∷◌, ◌++◌, length, map, take, drop, replicate, refl, sym, ap, ◌∙◌, ℤ, pos, negsuc, length-append, length-take, length-drop, eq-eqb}
-use Rattle.std.specs.Prelude.{IsTrue, Option, Some, None, IfSome, Ok, insert, slice_get}
-use Rattle.std.specs.List.{list_all, range_with_len, AllByRecursion}
+use Rattle.std.proofs.Common.{◌≡◌, ℕ, zero, suc, arith, ◌<◌, ◌≤◌, ◌+◌, ◌-◌, true, ◌&&◌, ◌||◌, not, nat_eq, nat_lt, nat_le, List, [], ◌∷◌, ◌++◌, length, map, refl, sym, ap, ◌∙◌, ℤ, pos, negsuc, length-append, length-take, length-drop, eq-eqb, le-leb}
+use Rattle.std.specs.Prelude.{Option, Some, None, IfSome, insert, slice_get}
+use Rattle.std.specs.List.{list_all, range_with_len}
 use Rattle.std.proofs.Math.Facts.{leb_yes}
 use Rattle.std.proofs.lemmas.Bool.{cond_both, eqb-true}
 use Rattle.std.proofs.lemmas.List.{length-map}
 use Rattle.std.proofs.lemmas.List.FromFn.{length-map-range_with_len}
 use Rattle.c_tree.specs.declared.program.Matrix.{Matrix}
 use Rattle.c_tree.specs.declared.program.Program.{Program}
-use Rattle.int_rows.specs.declared.row.Aff.{Aff}
-use Rattle.nest_tree.specs.declared.form.Form.{Form}
 use Rattle.nest_tree.specs.declared.kernel.KernelRow.{KernelRow}
 use Rattle.nest_tree.specs.declared.kernel.Nest.{Nest}
 use Rattle.nest_tree.specs.declared.kernel.Term.{Term}
@@ -24,7 +22,7 @@ use Rattle.affine_moves.proofs.Holding.{HoldsOne, unit-holds, last_held-level, l
 use Rattle.make_dense.specs.declared.places.Places.{Places}
 use Rattle.make_dense.specs.Forms.{difference, find_read, reads_at}
 use Rattle.make_dense.specs.Places.{vars, further, place_or, dense_var, entry_var, column_var, new_place}
-use Rattle.make_dense.specs.Piece.{places_of, old_form, below_columns, at_column, dense_rows, column_read, terms_for, dense_terms, dense_form, dense_piece}
+use Rattle.make_dense.specs.Piece.{places_of, old_form, below_columns, dense_rows, column_read, terms_for, dense_terms, dense_form, dense_piece}
 
 pub length-inserted : {A : Type 0} (xs : List A) (i : ℕ) (x : A) → i ≤ length xs → length (insert xs i x) ≡ suc (length xs)
 length-inserted xs i x l = grind (arith, length-append, length-take, length-drop)
@@ -34,11 +32,18 @@ weaker : (o : Option ℕ) (a b : ℕ) → a ≡ b → IfSome o (λ k. k < a) →
 weaker None a b e h = tt
 weaker (Some k) a b e h = omega (arith, e, h)
 
-pub find_read-below : (array : List ℕ) (v k : ℕ) (ts : List Term) → IfSome (find_read array v k ts) (λ j. j < k + length ts)
+find_read-below : (array : List ℕ) (v k : ℕ) (ts : List Term) → IfSome (find_read array v k ts) (λ j. j < k + length ts)
 find_read-below array v k [] = tt
 find_read-below array v k (t ∷ ts) =
     cond_both (reads_at array v (pos 0) t) (Some k) (find_read array v (suc k) ts) (λ (o : Option ℕ). IfSome o (λ j. j < k + suc (length ts)))
     (λ _. omega arith) (λ _. weaker (find_read array v (suc k) ts) (suc k + length ts) (k + suc (length ts)) (omega arith) (find_read-below array v (suc k) ts))
+
+pub find_read-within : (array : List ℕ) (v : ℕ) (ts : List Term) → IfSome (find_read array v 0 ts) (λ j. j < length ts)
+find_read-within array v ts = weaker (find_read array v 0 ts) (0 + length ts) (length ts) (omega arith) (find_read-below array v 0 ts)
+
+pub further-few : (o : Option ℕ) → further o ≤ 1
+further-few None = omega arith
+further-few (Some k) = omega arith
 
 -- ---- the forms
 new_place-below : (level d l : ℕ) → l < d → new_place level l < suc d
@@ -81,7 +86,7 @@ module _ (q : Places) (low : 1 ≤ q.level) (high : q.level ≤ q.depth) where
       let own : q.level ≤ suc q.depth = omega (arith, high) in
       true-and _ _ (bound-over (vars q) (suc q.depth) q.level (unit (vars q) (dense_var q)) own dense-holds)
       (true-and _ _ (bound-over (vars q) (suc q.depth) q.level (below_columns ps q columns) own (below-holds ps columns e))
-      (true-and _ _ (rw (difference-holds (dense_var q) (column_var q)) refl) refl))
+      (true-and _ _ (rw (difference-holds (dense_var q) (column_var q), le-leb 0 (suc q.depth) (omega arith)) refl) refl))
 
   pub terms-over : (array : List ℕ) (o : Option ℕ) → list_all (is_term_over (vars q)) (terms_for o (column_read q array)) ≡ true
   terms-over array None = rw entry-holds refl

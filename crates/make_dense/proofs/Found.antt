@@ -1,5 +1,5 @@
 -- The steps of the searches.
-use Rattle.std.proofs.Common.{◌≡◌, ℕ, suc, ◌<◌, ◌+◌, Bool, true, false, List, drop, length, get_or, drop-cons, add-one, ℤ, pos}
+use Rattle.std.proofs.Common.{◌≡◌, ℕ, ◌<◌, ◌+◌, Bool, true, false, List, drop, length, get_or, drop-cons, add-one, ℤ, pos}
 use Rattle.std.specs.Ordering.{int_eq}
 use Rattle.make_dense.specs.Forms.{coef_of_difference, has_coefs}
 

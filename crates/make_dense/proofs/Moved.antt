@@ -1,25 +1,22 @@
 -- The moves that give one statement a piece that fits it, fit the kernel; and the statement that a judgement speaks of.
-use Rattle.std.proofs.Common.{◌≡◌, ℕ, zero, suc, arith, ◌<◌, ◌≤◌, ◌+◌, Bool, true, false, not, ◌&&◌, cond, nat_le, List, [], ◌∷◌, ◌++◌, length, map, take, drop, get_or, refl, sym, ap, ◌∙◌, add-one, inl, inr, le-leb, leb-true}
-use Rattle.std.specs.Prelude.{Option, Some, None, Result, Ok, Err, slice_get}
-use Rattle.std.specs.List.{range_with_len, AllByRecursion}
+use Rattle.std.proofs.Common.{◌≡◌, ℕ, zero, suc, arith, ◌<◌, ◌≤◌, Bool, true, false, cond, nat_le, List, [], ◌∷◌, ◌++◌, length, take, drop, get_or, refl, sym, ◌∙◌, add-one, inl, inr, le-leb, leb-true}
+use Rattle.std.specs.Prelude.{Option, Some, None, Result, Ok, Err, IfOk, slice_get}
+use Rattle.std.specs.List.{AllByRecursion}
 use Rattle.std.proofs.lemmas.Bool.{cases_lt}
 use Rattle.std.proofs.lemmas.List.FromFn.{length-map-range_with_len}
 use Rattle.c_tree.specs.declared.program.Matrix.{Matrix}
 use Rattle.c_tree.specs.declared.program.Program.{Program}
-use Rattle.nest_tree.specs.declared.fault.ShapeWhy.{ShapeWhy}
 use Rattle.nest_tree.specs.declared.kernel.Kernel.{Kernel}
 use Rattle.nest_tree.specs.declared.kernel.Nest.{Nest}
 use Rattle.nest_tree.specs.declared.moves.Piece.{Piece}
-use Rattle.nest_core.specs.Making.{after}
 use Rattle.nest_core.specs.Shapes.{IsShapedNest, FitsNest, AllFit, IsShaped, Fits, count_pieces}
 use Rattle.nest_core.proofs.Kept.{after_ok, and}
 use Rattle.affine_moves.specs.Change.{is_level}
 use Rattle.affine_moves.specs.Moves.{only}
 use Rattle.affine_moves.proofs.Standing.{piece_at-fits}
 use Rattle.one_statement.specs.Alone.{any_shares}
-use Rattle.make_dense.specs.Bounds.{matrix_of}
-use Rattle.make_dense.specs.Dense.{stay, stays, pieces_with, moves_with}
-use Rattle.make_dense.specs.Judge.{or_shape, matrix_at, has_place, nest_matrix, matrix_for, judged_matrix}
+use Rattle.make_dense.specs.Dense.{stays, pieces_with, moves_with, dense_nest, IsMadeOf}
+use Rattle.make_dense.specs.Judge.{matrix_at, has_place, matrix_for, judged_matrix, IsJudged}
 
 pub found-below : {A : Type 0} (xs : List A) (i : ℕ) (x : A) → slice_get xs i ≡ Some x → i < length xs
 found-below [] i x e = absurd cc
@@ -58,13 +55,17 @@ with-count params [] s n p e = absurd cc
 with-count params (x ∷ ns) zero n p e = let more = stays-count params ns in omega (arith, more)
 with-count params (x ∷ ns) (suc s) n p e = let more = with-count params ns s n p e in omega (arith, more)
 
-pub moves-fit : (k : Kernel) (s : ℕ) (n : Nest) (p : Piece) → IsShaped k → slice_get k.nests s ≡ Some n → FitsNest (length k.head.params) n p → Fits k (moves_with k s p)
+moves-fit : (k : Kernel) (s : ℕ) (n : Nest) (p : Piece) → IsShaped k → slice_get k.nests s ≡ Some n → FitsNest (length k.head.params) n p → Fits k (moves_with k s p)
 moves-fit k s n p shaped e f =
     rw (add-one s) (record {
       pieces = with-fit k.head k.nests s n p shaped.nests e f;
       applies = length-map-range_with_len _ 0 (length k.nests);
       few = rw (with-count (length k.head.params) k.nests s n p e) shaped.few;
     })
+
+pub moves-made : (k : Kernel) (s : ℕ) (n : Nest) (p : Piece) (ns : List Nest) (pieces : List (List Piece)) (applies : List Bool) → ns ≡ k.nests → pieces ≡ pieces_with (length k.head.params) ns s p → applies ≡ only s (length ns)
+    → IsShaped k → slice_get k.nests s ≡ Some n → FitsNest (length k.head.params) n p → Fits k (record { pieces = pieces; applies = applies })
+moves-made k s n p ns pieces applies e d a shaped f g = rw (d, a, e) (moves-fit k s n p shaped f g)
 
 -- ---- judgements
 cond-ok : {A B : Type 0} (b : Bool) (r : Result A B) (e : B) (x : A) → cond b r (Err e) ≡ Ok x → b ≡ true
@@ -77,14 +78,6 @@ cond-not false r e x h = (refl, h)
 
 below-eight : (d : ℕ) → nat_le 8 d ≡ false → d < 8
 below-eight d e = elim (cases_lt d 8) [ inl h ↦ h | inr h ↦ (let yes : nat_le 8 d ≡ true = le-leb 8 d h in let no : true ≡ false = sym yes ∙ e in absurd cc) ]
-
--- the statement that was judged, with its level
-pub record IsJudged (k : Kernel) (s level : ℕ) (n : Nest) : Type 0 where
-  pub found : slice_get k.nests s ≡ Some n
-  pub shaped : IsShapedNest k.head n
-  pub low : 1 ≤ level
-  pub high : level ≤ length n.levels
-  pub few : length n.levels < 8
 
 judged-of : (k : Kernel) (s level : ℕ) (m : Matrix) (o : Option Nest) → matrix_for k s level o ≡ Ok m → (n : Nest) × (o ≡ Some n) × (1 ≤ level) × (level ≤ length n.levels) × (length n.levels < 8)
 judged-of k s level m None e = absurd cc
@@ -110,3 +103,7 @@ judged-at k s level m x shaped e d =
       high = j.3;
       few = j.4;
     })
+
+pub made-of : {E : Type 0} (k : Kernel) (s level : ℕ) (m : Matrix) (n : Nest) (r : Result Nest E) → IsJudged k s level n → IfOk r (λ x. dense_nest k.head.params n level m ≡ Ok x) → IfOk r (λ x. IsMadeOf k s level m x)
+made-of k s level m n (Ok x) j e = record { nest = n; found = j.found; made = e }
+made-of k s level m n (Err y) j e = tt

@@ -1,6 +1,5 @@
 -- The statement with a level for the columns, and what the command leaves.
-use Rattle.std.specs.Prelude.{◌≡◌, ◌⊎◌, ◌+◌, ⊤, ℕ, true, List, [], ◌∷◌, ◌++◌, length, map, take, drop, nat_eq, Option, Some, None, Result, Ok, Err, slice_get}
-use Rattle.std.specs.List.{range_with_len}
+use Rattle.std.specs.Prelude.{◌≡◌, ◌⊎◌, ◌+◌, ⊤, ℕ, true, List, [], ◌∷◌, ◌++◌, length, map, take, drop, Some, Result, Ok, Err, slice_get}
 use Rattle.chill_base.specs.declared.faults.Stop.{Stop}
 use Rattle.chill_base.specs.declared.faults.Stop.TheVariants.{Refused, NoMemory}
 use Rattle.c_tree.specs.declared.program.Matrix.{Matrix}
@@ -18,7 +17,6 @@ use Rattle.affine_moves.specs.Moves.{only}
 use Rattle.affine_moves.specs.Placed.{piece_at}
 use Rattle.one_statement.specs.Put.{put}
 use Rattle.make_dense.specs.Column.{with_column}
-use Rattle.make_dense.specs.Judge.{judged_matrix}
 use Rattle.make_dense.specs.Piece.{dense_piece}
 
 -- the statement with one level more, but with the old columns in the subscripts of its cells

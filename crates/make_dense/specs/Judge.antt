@@ -1,5 +1,5 @@
 -- What the command needs, and the lowest condition that isn't met.
-use Rattle.std.specs.Prelude.{ℕ, Bool, not, cond, nat_le, List, length, Option, Some, None, Result, Ok, Err, slice_get}
+use Rattle.std.specs.Prelude.{◌≡◌, ◌≤◌, ◌<◌, ℕ, cond, nat_le, List, length, Option, Some, None, Result, Ok, Err, slice_get}
 use Rattle.c_tree.specs.declared.program.Matrix.{Matrix}
 use Rattle.c_tree.specs.declared.program.Program.{Program}
 use Rattle.nest_tree.specs.declared.fault.ShapeWhy.{ShapeWhy}
@@ -7,6 +7,7 @@ use Rattle.nest_tree.specs.declared.fault.ShapeWhy.TheVariants.{NoStatement, NoL
 use Rattle.nest_tree.specs.declared.kernel.Kernel.{Kernel}
 use Rattle.nest_tree.specs.declared.kernel.Nest.{Nest}
 use Rattle.nest_core.specs.Making.{after}
+use Rattle.nest_core.specs.Shapes.{IsShapedNest}
 use Rattle.affine_moves.specs.Change.{is_level}
 use Rattle.one_statement.specs.Alone.{any_shares}
 use Rattle.make_dense.specs.Bounds.{matrix_of}
@@ -34,3 +35,11 @@ matrix_for k s level (Some n) = nest_matrix k.head k.nests s level n
 -- the matrix over whose rows' entries the level of statement s goes, or the lowest shape that holds
 abbrev pub judged_matrix : Kernel → ℕ → ℕ → Result Matrix ShapeWhy
 judged_matrix k s level = matrix_for k s level (slice_get k.nests s)
+
+-- statement s is this one, and it can have a level more before this level
+pub record IsJudged (k : Kernel) (s level : ℕ) (n : Nest) : Type 0 where
+  pub found : slice_get k.nests s ≡ Some n
+  pub shaped : IsShapedNest k.head n
+  pub low : 1 ≤ level
+  pub high : level ≤ length n.levels
+  pub few : length n.levels < 8

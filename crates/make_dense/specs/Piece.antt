@@ -1,5 +1,5 @@
 -- The piece that puts a level for the columns before one that goes over entries.
-use Rattle.std.specs.Prelude.{ℕ, ◌+◌, ◌-◌, cond, List, [], ◌∷◌, ◌++◌, length, map, insert, ℤ, pos, negsuc, Option, Some, None}
+use Rattle.std.specs.Prelude.{ℕ, ◌+◌, ◌-◌, true, false, List, [], ◌∷◌, ◌++◌, length, map, insert, pos, negsuc, Option, Some, None}
 use Rattle.std.specs.List.{range_with_len}
 use Rattle.c_tree.specs.declared.program.Matrix.{Matrix}
 use Rattle.int_rows.specs.declared.row.Aff.{Aff}

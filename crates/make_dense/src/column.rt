@@ -83,6 +83,7 @@ fn term_images(
 
 /// What the variables become where the column's level stands for each read of the column at the entry, which is the level
 /// behind it.
+#[tactic(auto, unfolding(crate::specs::Column::column_images))]
 fn column_images(
     alloc: Global,
     head: &Program,

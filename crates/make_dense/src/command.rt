@@ -1,7 +1,8 @@
 // `make_dense`: a level for the columns before one that goes over the entries of a row.
-ghost use Rattle.std.specs.Prelude.{◌≡◌, ◌≤◌, ◌<◌, length, slice_get, Some, Ok, IfOk, OnOk, OnErr};
+ghost use Rattle.std.specs.Prelude.{◌≡◌, Ok, IfOk, OnOk, OnErr};
 ghost use Rattle.nest_core.specs.Shapes.{IsShapedNest, IsShaped};
-ghost use Rattle.make_dense.specs.Judge.{judged_matrix};
+ghost use Rattle.make_dense.specs.Judge.{judged_matrix, IsJudged};
+ghost use Rattle.make_dense.specs.Dense.{dense_nest};
 ghost use Rattle.make_dense.specs.Dense as spec;
 
 use crate::dense::dense_nest;
@@ -22,13 +23,10 @@ fn test_order(
     statement: usize,
     nest: &Nest,
     level: usize,
-    matrix: Matrix,
+    matrix: &Matrix,
 ) -> Result<(), Stop<CommandFault>>
     requires shaped { IsShaped kernel.now }
-    requires found { slice_get kernel.now.nests statement ≡ Some nest.now }
-    requires low { 1 ≤ level }
-    requires high { level ≤ length nest.now.levels }
-    requires room { length nest.now.levels < 8 }
+    requires judged { IsJudged kernel.now statement level nest.now }
 {
     let piece = dense_piece(alloc, &kernel.head, nest, level, matrix)?;
     let moves = moves_with(alloc, kernel, statement, nest, piece)?;
@@ -44,21 +42,39 @@ fn tested_nest(
     alloc: Global,
     kernel: &Kernel,
     statement: usize,
+    nest: &Nest,
     level: usize,
-    matrix: Matrix,
+    matrix: &Matrix,
 ) -> Result<Nest, Stop<CommandFault>>
     requires shaped { IsShaped kernel.now }
-    requires judged { judged_matrix kernel.now statement level ≡ Ok matrix }
-    ensures dense { IfOk result (λ n. spec.IsMadeOf kernel.now statement level matrix n) }
+    requires judged { IsJudged kernel.now statement level nest.now }
+    ensures dense { IfOk result (λ n. dense_nest kernel.now.head.params nest.now level matrix.now ≡ Ok n) }
+    ensures shaped { IfOk result (λ n. IsShapedNest kernel.now.head n) }
+{
+    match dense_nest(alloc, &kernel.head, nest, level, matrix) {
+        Ok(dense) => {
+            test_order(alloc, kernel, statement, nest, level, matrix)?;
+            Ok(dense)
+        }
+        Err(stop) => Err(overflow(stop)),
+    }
+}
+
+/// The statement with this number with its new level, tested.
+fn tested_at(
+    alloc: Global,
+    kernel: &Kernel,
+    statement: usize,
+    level: usize,
+    matrix: &Matrix,
+) -> Result<Nest, Stop<CommandFault>>
+    requires shaped { IsShaped kernel.now }
+    requires judged { judged_matrix kernel.now statement level ≡ Ok matrix.now }
+    ensures dense { IfOk result (λ n. spec.IsMadeOf kernel.now statement level matrix.now n) }
     ensures shaped { IfOk result (λ n. IsShapedNest kernel.now.head n) }
 {
     let nest = &kernel.nests.as_slice()[statement];
-    let dense = match dense_nest(alloc, &kernel.head, nest, level, matrix) {
-        Ok(dense) => dense,
-        Err(stop) => return Err(overflow(stop)),
-    };
-    test_order(alloc, kernel, statement, nest, level, matrix)?;
-    Ok(dense)
+    tested_nest(alloc, kernel, statement, nest, level, matrix)
 }
 
 /// Puts the statement with its new level in the place of the old one.
@@ -67,15 +83,15 @@ fn put_dense(
     kernel: &mut Kernel,
     statement: usize,
     level: usize,
-    matrix: Matrix,
+    matrix: &Matrix,
 ) -> Result<(), Stop<CommandFault>>
     requires shaped { IsShaped kernel.old }
-    requires judged { judged_matrix kernel.old statement level ≡ Ok matrix }
+    requires judged { judged_matrix kernel.old statement level ≡ Ok matrix.now }
     ensures shaped { OnOk result (IsShaped kernel.new) }
     ensures unchanged { OnErr result (kernel.new ≡ kernel.old) }
-    ensures dense { OnOk result (spec.IsMadeDense kernel.old kernel.new statement level matrix) }
+    ensures dense { OnOk result (spec.IsMadeDense kernel.old kernel.new statement level matrix.now) }
 {
-    let dense = tested_nest(alloc, kernel, statement, level, matrix)?;
+    let dense = tested_at(alloc, kernel, statement, level, matrix)?;
     put_statement(
         alloc,
         kernel,
@@ -103,7 +119,7 @@ pub fn make_dense(
     ensures dense { OnOk result (spec.IsDense kernel.old kernel.new statement level (judged_matrix kernel.old statement level)) }
 {
     match judged_matrix(alloc, kernel, statement, level) {
-        Ok(matrix) => put_dense(alloc, kernel, statement, level, matrix),
+        Ok(matrix) => put_dense(alloc, kernel, statement, level, &matrix),
         Err(Stop::Refused(why)) => Err(Stop::Refused(CommandFault::Shape(why))),
         Err(Stop::NoMemory) => Err(Stop::NoMemory),
     }

@@ -21,13 +21,13 @@ fn nest_with_level(
     head: &Program,
     nest: &Nest,
     level: usize,
-    matrix: Matrix,
+    matrix: &Matrix,
 ) -> Result<Nest, Stop<Excess>>
     requires shaped { IsShapedNest head.now nest.now }
     requires low { 1 ≤ level }
     requires high { level ≤ length nest.now.levels }
     requires room { length nest.now.levels < 8 }
-    ensures gives { Gives result (spec.nest_with_level head.now.params nest.now level matrix) }
+    ensures gives { Gives result (spec.nest_with_level head.now.params nest.now level matrix.now) }
     ensures shaped { IfOk result (λ n. IsShapedNest head.now n) }
     ensures high { IfOk result (λ n. level ≤ length n.levels) }
 {
@@ -41,13 +41,13 @@ pub fn dense_nest(
     head: &Program,
     nest: &Nest,
     level: usize,
-    matrix: Matrix,
+    matrix: &Matrix,
 ) -> Result<Nest, Stop<Excess>>
     requires shaped { IsShapedNest head.now nest.now }
     requires low { 1 ≤ level }
     requires high { level ≤ length nest.now.levels }
     requires room { length nest.now.levels < 8 }
-    ensures gives { Gives result (spec.dense_nest head.now.params nest.now level matrix) }
+    ensures gives { Gives result (spec.dense_nest head.now.params nest.now level matrix.now) }
     ensures shaped { IfOk result (λ n. IsShapedNest head.now n) }
 {
     let new = nest_with_level(alloc, head, nest, level, matrix)?;

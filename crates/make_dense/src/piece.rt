@@ -90,14 +90,7 @@ fn at_column(alloc: Global, places: Places) -> Result<KernelRow, NoMemory>
     requires { IsPlaces places }
     ensures { IfOk result (λ r. r ≡ spec.at_column places) }
 {
-    let form = of_two(
-        alloc,
-        vars(places),
-        dense_var(places),
-        1,
-        column_var(places),
-        -1,
-    )?;
+    let form = difference(alloc, vars(places), dense_var(places), column_var(places))?;
     Ok(KernelRow {
         row: Row { equal: true, form },
         own: 0,
@@ -180,11 +173,12 @@ fn inserted<T: Copy + Drop>(
 
 /// Where the variables will stand.
 #[tactic(auto, unfolding(crate::specs::Piece::places_of))]
-pub fn places_of(head: &Program, nest: &Nest, level: usize, matrix: Matrix) -> Places
+pub fn places_of(head: &Program, nest: &Nest, level: usize, matrix: &Matrix) -> Places
     requires shaped { IsShapedNest head.now nest.now }
     requires low { 1 ≤ level }
     requires high { level ≤ length nest.now.levels }
-    ensures value { result ≡ spec.places_of (length head.now.params) nest.now level matrix }
+    ensures value { result ≡ spec.places_of (length head.now.params) nest.now level matrix.now }
+    ensures depth { result.depth ≡ length nest.now.levels }
     ensures places { IsPlaces result }
 {
     let params = head.params.as_slice().len();
@@ -205,12 +199,12 @@ pub fn dense_piece(
     head: &Program,
     nest: &Nest,
     level: usize,
-    matrix: Matrix,
+    matrix: &Matrix,
 ) -> Result<Piece, NoMemory>
     requires shaped { IsShapedNest head.now nest.now }
     requires low { 1 ≤ level }
     requires high { level ≤ length nest.now.levels }
-    ensures { IfOk result (λ p. p ≡ spec.dense_piece head.now.params nest.now level matrix) }
+    ensures { IfOk result (λ p. p ≡ spec.dense_piece head.now.params nest.now level matrix.now) }
 {
     let places = places_of(head, nest, level, matrix);
     let positions = nest.positions.as_slice();
