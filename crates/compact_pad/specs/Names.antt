@@ -1,8 +1,12 @@
 -- The names of the arrays that a padding makes.
-use Rattle.std.specs.Prelude.{ℕ, List, codes, Option, Some, None}
+use Rattle.std.specs.Prelude.{ℕ, Bool, true, false, IsTrue, ⊤, IfSome, List, [], ◌∷◌, codes, Option, Some, None}
+use Rattle.nest_tree.specs.declared.kernel.Kernel.{Kernel}
 use Rattle.inspectors.specs.declared.names.MarkNames.{MarkNames}
 use Rattle.inspectors.specs.declared.names.RowNames.{RowNames}
 use Rattle.one_statement.specs.Made.{made_name}
+use Rattle.one_statement.specs.Names.{is_free}
+use Rattle.pad_layouts.specs.declared.layout.Layout.{Layout}
+use Rattle.pad_layouts.specs.declared.layout.Layout.TheVariants.{Block, Diag, Rows}
 use Rattle.compact_pad.specs.declared.names.KeptNames.{KeptNames}
 
 abbrev pub four : Option (List ℕ) → Option (List ℕ) → Option (List ℕ) → Option (List ℕ) → Option MarkNames
@@ -33,3 +37,27 @@ three None b c = None
 -- the names of padded rows, where all of them are names
 abbrev pub row_names : List ℕ → Option RowNames
 row_names p = three (made_name p (codes "_wid")) (made_name p (codes "_lay")) (made_name p (codes "_lcol"))
+
+-- ---- names that nothing else in the kernel has
+abbrev pub AreFree : Kernel → List (Option (List ℕ)) → Type 0
+AreFree k [] = ⊤
+AreFree k (o ∷ os) = IfSome o (λ n. IsTrue (is_free k n)) × AreFree k os
+
+abbrev pub FreeUnless : Bool → Kernel → List (Option (List ℕ)) → Type 0
+FreeUnless true k os = ⊤
+FreeUnless false k os = AreFree k os
+
+abbrev pub mark_list : List ℕ → List (Option (List ℕ))
+mark_list p = made_name p (codes "_ptr") ∷ made_name p (codes "_val") ∷ made_name p (codes "_num") ∷ made_name p (codes "_mark") ∷ []
+
+abbrev pub kept_list : List ℕ → List (Option (List ℕ))
+kept_list p = made_name p (codes "_lay") ∷ mark_list p
+
+abbrev pub row_list : List ℕ → List (Option (List ℕ))
+row_list p = made_name p (codes "_wid") ∷ made_name p (codes "_lay") ∷ made_name p (codes "_lcol") ∷ []
+
+-- the names that a layout makes
+abbrev pub made_list : Layout → List ℕ → List (Option (List ℕ))
+made_list (Block rows cols swapped) p = kept_list p
+made_list Diag p = kept_list p
+made_list Rows p = row_list p

@@ -4,6 +4,8 @@ ghost use Rattle.nest_core.specs.Shapes.{vars_of, IsShaped, IsShapedNest};
 ghost use Rattle.pad_layouts.specs.Moved.{is_pick};
 ghost use Rattle.pad_layouts.specs.Plans.{plan_of, IsPlan, IsPlanAt};
 ghost use Rattle.compact_pad.specs.Answers.{AnswersFirst};
+ghost use Rattle.compact_pad.specs.Names as names;
+ghost use Rattle.compact_pad.specs.Names.{AreFree};
 ghost use Rattle.compact_pad.specs.Padded as spec;
 ghost use Rattle.compact_pad.specs.Padded.{IsPadded, IsPut};
 
@@ -28,6 +30,7 @@ fn named_blocks(
     requires shaped { IsShapedNest kernel.now.head nest.now }
     requires depth { length nest.now.levels ≡ 5 }
     ensures value { IfOk result (λ e. spec.named_blocks kernel.now.head.params nest.now plan.now sides name ≡ Some e) }
+    ensures free { OnOk result (AreFree kernel.now (names.kept_list name)) }
     ensures shaped { IfOk result (λ e. IsShapedNest kernel.now.head e.nest) }
 {
     let names = free_kept_names(kernel, name)?;
@@ -45,6 +48,7 @@ fn named_diagonals(
     requires shaped { IsShapedNest kernel.now.head nest.now }
     requires depth { length nest.now.levels ≡ 3 }
     ensures value { IfOk result (λ e. spec.named_diagonals kernel.now.head.params nest.now plan.now name ≡ Some e) }
+    ensures free { OnOk result (AreFree kernel.now (names.kept_list name)) }
     ensures shaped { IfOk result (λ e. IsShapedNest kernel.now.head e.nest) }
 {
     let names = free_kept_names(kernel, name)?;
@@ -63,6 +67,7 @@ fn named_rows(
     requires depth { length nest.now.levels ≡ 2 }
     requires column { IsTrue (is_pick (vars_of (length kernel.now.head.params) nest.now) plan.now.column) }
     ensures value { IfOk result (λ e. spec.named_rows kernel.now.head.params nest.now plan.now name ≡ Some e) }
+    ensures free { OnOk result (AreFree kernel.now (names.row_list name)) }
     ensures shaped { IfOk result (λ e. IsShapedNest kernel.now.head e.nest) }
 {
     let names = free_row_names(kernel, name)?;
@@ -80,6 +85,7 @@ fn entered(
     requires shaped { IsShapedNest kernel.now.head nest.now }
     requires plan { IsPlan kernel.now.head nest.now plan.now }
     ensures value { IfOk result (λ e. spec.entered kernel.now.head.params nest.now plan.now name ≡ Some e) }
+    ensures free { OnOk result (AreFree kernel.now (names.made_list plan.now.layout name)) }
     ensures shaped { IfOk result (λ e. IsShapedNest kernel.now.head e.nest) }
 {
     match plan.layout {
@@ -153,6 +159,7 @@ fn entered_at(
     requires shaped { IsShaped kernel.now }
     requires plan { IsPlanAt kernel.now statement plan.now }
     ensures put { IfOk result (λ e. IsPut kernel.now statement plan.now name e) }
+    ensures free { OnOk result (AreFree kernel.now (names.made_list plan.now.layout name)) }
     ensures shaped { IfOk result (λ e. IsShapedNest kernel.now.head e.nest) }
 {
     let nest = &kernel.nests.as_slice()[statement];
@@ -174,6 +181,7 @@ fn pad_by(
     requires shaped { IsShaped kernel.old }
     requires plan { IsPlanAt kernel.old statement plan.now }
     ensures padded { OnOk result (IsPadded kernel.old kernel.new statement plan.now name) }
+    ensures free { OnOk result (AreFree kernel.old (names.made_list plan.now.layout name)) }
     ensures shaped { OnOk result (IsShaped kernel.new) }
     ensures unchanged { OnErr result (kernel.new ≡ kernel.old) }
 {
@@ -196,6 +204,7 @@ pub fn compact_and_pad(
     requires { IsShaped kernel.old }
     ensures first { AnswersFirst (plan_of kernel.old statement level kind) result }
     ensures padded { OnOk result (IfOk (plan_of kernel.old statement level kind) (λ p. IsPadded kernel.old kernel.new statement p name)) }
+    ensures free { OnOk result (IfOk (plan_of kernel.old statement level kind) (λ p. AreFree kernel.old (names.made_list p.layout name))) }
     ensures shaped { OnOk result (IsShaped kernel.new) }
     ensures unchanged { OnErr result (kernel.new ≡ kernel.old) }
 {

@@ -10,9 +10,7 @@ use c_tree::{Matrix, Program, Stmt};
 use chill_base::{List, Name, NoMemory};
 use inspectors::{RowNames, block_inspector, diag_inspector, rows_inspector};
 use nest_tree::{Made, Nest};
-use pad_layouts::{
-    KeptArrays, Plan, RowArrays, Sides, block_nest, diag_nest, is_name, row_nest,
-};
+use pad_layouts::{KeptArrays, Plan, RowArrays, Sides, block_nest, diag_nest, is_name, row_nest};
 use std::alloc::Global;
 
 /// What a padding brings into a kernel.

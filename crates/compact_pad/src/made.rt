@@ -40,7 +40,12 @@ fn kept_arrays(
         count,
     };
     let mut made = List::new(alloc);
-    push_made(&mut made, marks.ptr, matrix, MadeWhat::Pointer { rows, count })?;
+    push_made(
+        &mut made,
+        marks.ptr,
+        matrix,
+        MadeWhat::Pointer { rows, count },
+    )?;
     push_made(&mut made, marks.val, matrix, kept)?;
     push_made(&mut made, marks.num, matrix, MadeWhat::Count)?;
     push_made(&mut made, marks.mark, matrix, MadeWhat::Mark)?;
@@ -68,11 +73,7 @@ pub fn block_arrays(
 }
 
 /// The arrays of diagonals.
-pub fn diag_arrays(
-    alloc: Global,
-    names: &KeptNames,
-    matrix: usize,
-) -> Result<List<Made>, NoMemory>
+pub fn diag_arrays(alloc: Global, names: &KeptNames, matrix: usize) -> Result<List<Made>, NoMemory>
     ensures { IfOk result (λ made. made ≡ spec.diag_arrays names.now matrix) }
 {
     let mut made = kept_arrays(alloc, names, matrix, 0, -1, 1)?;

@@ -1,6 +1,8 @@
 // The names of the arrays that a padding makes.
-ghost use Rattle.std.specs.Prelude.{◌≡◌, IfOk, Some};
+ghost use Rattle.std.specs.Prelude.{◌≡◌, ◌∷◌, [], IfOk, OnOk, Some};
+ghost use Rattle.one_statement.specs.Made.{made_name};
 ghost use Rattle.compact_pad.specs.Names as spec;
+ghost use Rattle.compact_pad.specs.Names.{AreFree, FreeUnless};
 
 use chill_base::{Name, Stop};
 use inspectors::{MarkNames, RowNames};
@@ -15,28 +17,49 @@ pub struct KeptNames {
 }
 
 /// Whether the name with these bytes behind it can't be made, since something else has it.
-fn is_taken(kernel: &Kernel, prefix: Name, suffix: &[u8]) -> bool {
+fn is_taken(kernel: &Kernel, prefix: Name, suffix: &[u8]) -> bool
+    ensures { FreeUnless result kernel.now (made_name prefix suffix.now ∷ []) }
+{
     match made_name(prefix, suffix) {
         Some(name) => !is_free(kernel, name),
         None => false,
     }
 }
 
-fn is_mark_taken(kernel: &Kernel, prefix: Name) -> bool {
-    is_taken(kernel, prefix, b"_ptr")
-        || is_taken(kernel, prefix, b"_val")
-        || is_taken(kernel, prefix, b"_num")
-        || is_taken(kernel, prefix, b"_mark")
+fn is_mark_taken(kernel: &Kernel, prefix: Name) -> bool
+    ensures { FreeUnless result kernel.now (spec.mark_list prefix) }
+{
+    if is_taken(kernel, prefix, b"_ptr") {
+        return true;
+    }
+    if is_taken(kernel, prefix, b"_val") {
+        return true;
+    }
+    if is_taken(kernel, prefix, b"_num") {
+        return true;
+    }
+    is_taken(kernel, prefix, b"_mark")
 }
 
-fn is_kept_taken(kernel: &Kernel, prefix: Name) -> bool {
-    is_mark_taken(kernel, prefix) || is_taken(kernel, prefix, b"_lay")
+fn is_kept_taken(kernel: &Kernel, prefix: Name) -> bool
+    ensures { FreeUnless result kernel.now (spec.kept_list prefix) }
+{
+    if is_taken(kernel, prefix, b"_lay") {
+        return true;
+    }
+    is_mark_taken(kernel, prefix)
 }
 
-fn is_row_taken(kernel: &Kernel, prefix: Name) -> bool {
-    is_taken(kernel, prefix, b"_wid")
-        || is_taken(kernel, prefix, b"_lay")
-        || is_taken(kernel, prefix, b"_lcol")
+fn is_row_taken(kernel: &Kernel, prefix: Name) -> bool
+    ensures { FreeUnless result kernel.now (spec.row_list prefix) }
+{
+    if is_taken(kernel, prefix, b"_wid") {
+        return true;
+    }
+    if is_taken(kernel, prefix, b"_lay") {
+        return true;
+    }
+    is_taken(kernel, prefix, b"_lcol")
 }
 
 fn mark_names(prefix: Name) -> Option<MarkNames>
@@ -73,7 +96,8 @@ fn row_names(prefix: Name) -> Option<RowNames>
 
 /// The names of kept values and of their layout, where they can be made.
 pub fn free_kept_names(kernel: &Kernel, prefix: Name) -> Result<KeptNames, Stop<ShapeWhy>>
-    ensures { IfOk result (λ b. spec.kept_names prefix ≡ Some b) }
+    ensures names { IfOk result (λ b. spec.kept_names prefix ≡ Some b) }
+    ensures free { OnOk result (AreFree kernel.now (spec.kept_list prefix)) }
 {
     if is_kept_taken(kernel, prefix) {
         return Err(Stop::Refused(ShapeWhy::NameTaken));
@@ -86,7 +110,8 @@ pub fn free_kept_names(kernel: &Kernel, prefix: Name) -> Result<KeptNames, Stop<
 
 /// The names of padded rows, where they can be made.
 pub fn free_row_names(kernel: &Kernel, prefix: Name) -> Result<RowNames, Stop<ShapeWhy>>
-    ensures { IfOk result (λ b. spec.row_names prefix ≡ Some b) }
+    ensures names { IfOk result (λ b. spec.row_names prefix ≡ Some b) }
+    ensures free { OnOk result (AreFree kernel.now (spec.row_list prefix)) }
 {
     if is_row_taken(kernel, prefix) {
         return Err(Stop::Refused(ShapeWhy::NameTaken));

@@ -1,6 +1,6 @@
 -- How deep the statements of layouts are, and what is found.
-use Rattle.std.proofs.Common.{◌≡◌, ℕ, zero, suc, ◌+◌, ◌<◌, arith, List, [], ◌∷◌, length, Bool, true, false, cond, ◌&&◌, nat_lt, get_or, refl, sym, ap, ◌∙◌, lt-ltb, ℤ}
-use Rattle.std.specs.Prelude.{Option, Some, None, IfSome, IsTrue, slice_get}
+use Rattle.std.proofs.Common.{◌≡◌, ℕ, zero, suc, ◌+◌, ◌<◌, arith, List, [], ◌∷◌, length, Bool, true, false, cond, ◌&&◌, get_or, refl, sym, ap, lt-ltb, ℤ}
+use Rattle.std.specs.Prelude.{Option, Some, None, IfSome, slice_get}
 use Rattle.std.proofs.lemmas.Bool.{cond_both}
 use Rattle.chill_base.specs.declared.padding.Padding.{Padding}
 use Rattle.chill_base.specs.declared.padding.Padding.TheVariants.{Block as BlockKind, Diag as DiagKind, Rows as RowsKind}
@@ -8,7 +8,7 @@ use Rattle.nest_tree.specs.declared.form.Form.{Form}
 use Rattle.nest_tree.specs.declared.kernel.Term.{Term}
 use Rattle.pad_layouts.specs.declared.layout.Layout.{Layout}
 use Rattle.pad_layouts.specs.declared.layout.Layout.TheVariants.{Block, Diag, Rows}
-use Rattle.pad_layouts.specs.Layouts.{blocks, layout_of, is_diag, is_rows, side_of, order_of, stands_for}
+use Rattle.pad_layouts.specs.Layouts.{blocks, layout_of, is_diag, is_rows}
 use Rattle.pad_layouts.specs.Moved.{is_pick}
 use Rattle.pad_layouts.specs.Plans.{old_depth}
 use Rattle.pad_layouts.specs.Products.{find_read, is_name, is_single}

@@ -1,22 +1,20 @@
 -- The parts of padded statements fit.
-use Rattle.std.proofs.Common.{◌≡◌, ℕ, zero, suc, ◌+◌, ◌≤◌, ◌<◌, arith, length, List, ◌∷◌, [], ◌++◌, map, Bool, true, cond, refl, sym, ap, ◌∙◌, length-append, lt-ltb, ℤ, pos, negsuc}
+use Rattle.std.proofs.Common.{◌≡◌, ℕ, zero, suc, ◌+◌, ◌≤◌, ◌<◌, arith, length, List, ◌∷◌, [], map, Bool, true, cond, refl, ◌∙◌, length-append, lt-ltb, ℤ, pos, negsuc}
 use Rattle.std.specs.Prelude.{IsTrue, Option, Some, None}
 use Rattle.std.specs.List.{list_all, range_with_len}
 use Rattle.std.proofs.lemmas.Bool.{cond_both}
 use Rattle.c_tree.specs.declared.program.Matrix.{Matrix}
 use Rattle.int_rows.specs.declared.row.Aff.{Aff}
 use Rattle.nest_tree.specs.declared.kernel.KernelRow.{KernelRow}
-use Rattle.nest_tree.specs.declared.kernel.Term.{Term}
 use Rattle.nest_core.specs.Forms.{has_vars}
-use Rattle.nest_core.specs.Shapes.{is_row_over, is_term_over, is_access_over}
+use Rattle.nest_core.specs.Shapes.{is_row_over, is_term_over}
 use Rattle.pad_layouts.specs.declared.block.Sides.{Sides}
 use Rattle.pad_layouts.specs.declared.parts.KeptArrays.{KeptArrays}
 use Rattle.pad_layouts.specs.declared.parts.RowArrays.{RowArrays}
-use Rattle.pad_layouts.specs.Forms.{one, two, fixed, bound, form_with}
+use Rattle.pad_layouts.specs.Forms.{one, two, fixed}
 use Rattle.pad_layouts.specs.Moved.{is_pick, kept_rows}
 use Rattle.pad_layouts.specs.Parts.{picks_of, read, kept_terms, pointer_rows, AreFitting}
-use Rattle.pad_layouts.specs.Kinds as kinds
-use Rattle.pad_layouts.specs.Kinds.{with_group, block_rows, block_cell, block_picks, block_parts, below, square_rows, diag_cell, diag_picks, diag_parts, row_vars, row_picks, row_cell, column_term, row_terms, row_rows, row_parts}
+use Rattle.pad_layouts.specs.Kinds.{with_group, block_rows, block_cell, block_picks, block_parts, below, square_rows, diag_cell, diag_picks, diag_parts, row_vars, row_picks, row_terms, row_rows, row_parts}
 use Rattle.pad_layouts.proofs.Mapping.{length-range}
 use Rattle.pad_layouts.proofs.Widths.{form-has, bound-over, missing-over, kept-over, all_both}
 

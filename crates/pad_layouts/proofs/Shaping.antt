@@ -1,7 +1,7 @@
 -- A padded statement has the shapes of statements.
-use Rattle.std.proofs.Common.{◌≡◌, ℕ, suc, ◌+◌, Bool, true, ◌&&◌, List, ◌∷◌, length, replicate, cond, refl, sym, ap, ◌∙◌}
+use Rattle.std.proofs.Common.{◌≡◌, ℕ, suc, ◌+◌, true, ◌&&◌, List, length, replicate, refl, sym, ap, ◌∙◌}
 use Rattle.std.proofs.lemmas.List.{length-replicate}
-use Rattle.std.specs.Prelude.{IsTrue, Option, None}
+use Rattle.std.specs.Prelude.{IsTrue, Option}
 use Rattle.std.specs.List.{list_all}
 use Rattle.std.proofs.lemmas.Bool.{cond_both}
 use Rattle.c_tree.specs.declared.program.Program.{Program}
@@ -10,12 +10,12 @@ use Rattle.nest_tree.specs.declared.body.Body.{Body}
 use Rattle.nest_tree.specs.declared.body.Body.TheVariants.{Const, At, Plus, Minus, Times}
 use Rattle.nest_tree.specs.declared.form.Form.TheVariants.{Other}
 use Rattle.nest_tree.specs.declared.kernel.Nest.{Nest}
-use Rattle.nest_core.specs.Shapes.{vars_of, is_access_over, is_body_over, IsShapedNest}
+use Rattle.nest_core.specs.Shapes.{is_access_over, is_body_over, IsShapedNest}
 use Rattle.nest_core.proofs.Bodies.{over_is-Const, over_is-At, over_is-Plus, over_is-Minus, over_is-Times}
 use Rattle.nest_core.proofs.BodiesKept.{induct}
 use Rattle.pad_layouts.specs.declared.parts.Parts.{Parts}
 use Rattle.pad_layouts.specs.Products.{is_name}
-use Rattle.pad_layouts.specs.Moved.{is_pick, suits, moved_access, padded_body, suits_body}
+use Rattle.pad_layouts.specs.Moved.{is_pick, moved_access, padded_body, suits_body}
 use Rattle.pad_layouts.specs.Parts.{padded_nest, AreFitting}
 use Rattle.pad_layouts.proofs.Padding.{padded-Const, padded-At, padded-Plus, padded-Minus, padded-Times, suits_is-Const, suits_is-At, suits_is-Plus, suits_is-Minus, suits_is-Times}
 use Rattle.pad_layouts.proofs.Widths.{and_parts, access-over, access-suits}

@@ -1,6 +1,6 @@
 -- Tests of two parts.
-use Rattle.std.proofs.Common.{◌≡◌, Bool, true, false, ◌&&◌, cond, refl, sym, ◌∙◌}
-use Rattle.std.specs.Prelude.{Option, Some, None}
+use Rattle.std.proofs.Common.{◌≡◌, Bool, true, false, ◌&&◌, cond, refl}
+use Rattle.std.specs.Prelude.{Some, None}
 
 pub and-true : (a b x : Bool) → true ≡ a → x ≡ b → x ≡ (a && b)
 and-true true b x e f = f

@@ -1,8 +1,8 @@
 -- How many variables the forms of a padded statement have.
-use Rattle.std.proofs.Common.{◌≡◌, ℕ, zero, suc, ◌+◌, ◌≤◌, ◌<◌, arith, length, List, ◌∷◌, [], ◌++◌, take, drop, map, Bool, true, false, cond, ◌&&◌, ◌||◌, not, nat_eq, nat_le, nat_lt, refl, sym, ap, ◌∙◌, eq-eqb, eqb-true, le-leb, leb-true, length-append, length-take, ℤ, pos}
-use Rattle.std.specs.Prelude.{IsTrue, Option, Some, None}
+use Rattle.std.proofs.Common.{◌≡◌, ℕ, suc, ◌+◌, ◌≤◌, arith, length, List, ◌∷◌, [], ◌++◌, take, drop, map, Bool, true, false, cond, ◌&&◌, ◌||◌, not, nat_eq, nat_le, refl, eq-eqb, eqb-true, le-leb, leb-true, length-take, ℤ, pos}
+use Rattle.std.specs.Prelude.{IsTrue, Option, None}
 use Rattle.std.specs.Ordering.{int_eq}
-use Rattle.std.specs.List.{list_all, list_any, range_with_len}
+use Rattle.std.specs.List.{list_all, list_any}
 use Rattle.std.proofs.lemmas.Bool.{cond_both}
 use Rattle.std.proofs.lemmas.List.Folds.{list_all-append}
 use Rattle.int_rows.specs.declared.row.Aff.{Aff}

@@ -1,5 +1,5 @@
 -- Forms over the variables of a padded statement.
-use Rattle.std.specs.Prelude.{ℕ, Bool, false, cond, nat_eq, bytes_eq, List, [], map, ℤ, pos, slice_index_or}
+use Rattle.std.specs.Prelude.{ℕ, false, cond, nat_eq, List, [], map, ℤ, pos, slice_index_or}
 use Rattle.std.specs.List.{range_with_len}
 use Rattle.int_rows.specs.declared.row.Aff.{Aff}
 use Rattle.nest_tree.specs.declared.kernel.KernelRow.{KernelRow}

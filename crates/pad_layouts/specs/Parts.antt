@@ -1,13 +1,12 @@
 -- What a padded statement is made of.
-use Rattle.std.specs.Prelude.{◌≡◌, ◌≤◌, ℕ, zero, ◌+◌, Bool, ◌&&◌, IsTrue, List, [], ◌∷◌, ◌++◌, map, length, replicate, ℤ, pos, negsuc, Option, Some, None, slice_index_or}
+use Rattle.std.specs.Prelude.{◌≡◌, ◌≤◌, ℕ, ◌+◌, IsTrue, List, [], ◌∷◌, ◌++◌, map, length, replicate, pos, negsuc, Option, Some, None, slice_index_or}
 use Rattle.std.specs.List.{list_all, range_with_len}
 use Rattle.int_rows.specs.declared.row.Aff.{Aff}
-use Rattle.nest_tree.specs.declared.body.Access.{Access}
 use Rattle.nest_tree.specs.declared.form.Form.TheVariants.{Other}
 use Rattle.nest_tree.specs.declared.kernel.KernelRow.{KernelRow}
 use Rattle.nest_tree.specs.declared.kernel.Nest.{Nest}
 use Rattle.nest_tree.specs.declared.kernel.Term.{Term}
-use Rattle.nest_core.specs.Shapes.{vars_of, is_row_over, is_term_over, is_access_over, is_body_over}
+use Rattle.nest_core.specs.Shapes.{is_row_over, is_term_over, is_access_over}
 use Rattle.pad_layouts.specs.declared.parts.Parts.{Parts}
 use Rattle.pad_layouts.specs.declared.parts.KeptArrays.{KeptArrays}
 use Rattle.pad_layouts.specs.Forms.{one, two, bound}

@@ -1,7 +1,7 @@
 -- Products with one value of a matrix as a factor.
 use Rattle.std.specs.Prelude.{ℕ, suc, Bool, true, false, cond, not, ◌&&◌, ◌||◌, nat_eq, bytes_eq, drop, List, [], ◌∷◌, ℤ, pos, Option, Some, None}
 use Rattle.std.specs.Ordering.{int_eq}
-use Rattle.std.specs.List.{list_all, list_any}
+use Rattle.std.specs.List.{list_all}
 use Rattle.int_rows.specs.declared.row.Aff.{Aff}
 use Rattle.c_tree.specs.declared.statement.How.{How}
 use Rattle.c_tree.specs.declared.statement.How.TheVariants.{Write, Add, Subtract}

@@ -1,4 +1,4 @@
-use Rattle.std.proofs.Common.{◌+◌, ◌≤◌, arith, length}
+use Rattle.std.proofs.Common.{◌+◌, ◌≤◌, arith}
 use Rattle.nest_core.specs.Shapes.{vars_of}
 use Rattle.pad_layouts.proofs.Fitting.{block-within}
 use Rattle.pad_layouts.proofs.block.block_parts.Goals as goal

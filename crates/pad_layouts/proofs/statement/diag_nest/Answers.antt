@@ -1,4 +1,4 @@
-use Rattle.std.proofs.Common.{◌≡◌, ◌+◌, ◌≤◌, arith, length, rules, ap}
+use Rattle.std.proofs.Common.{◌+◌, ◌≤◌, arith, length}
 use Rattle.nest_core.specs.Shapes.{vars_of}
 use Rattle.pad_layouts.specs.Kinds.{diag_parts}
 use Rattle.pad_layouts.proofs.Fitting.{diag-fitting, diag-within}

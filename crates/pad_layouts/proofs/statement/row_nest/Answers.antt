@@ -1,4 +1,4 @@
-use Rattle.std.proofs.Common.{◌≡◌, ◌+◌, ◌≤◌, arith, length, rules, ap}
+use Rattle.std.proofs.Common.{◌+◌, ◌≤◌, arith, length, ap}
 use Rattle.nest_core.specs.Shapes.{vars_of}
 use Rattle.pad_layouts.specs.Kinds.{row_parts}
 use Rattle.pad_layouts.proofs.Fitting.{row-fitting, row-within}
