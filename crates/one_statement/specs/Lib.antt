@@ -1,0 +1,5 @@
+pub mod Names
+pub mod Made
+pub mod Images
+pub mod Put
+pub mod Alone

@@ -1,0 +1,98 @@
+// Copies of statements.
+ghost use Rattle.std.specs.Prelude.{◌≡◌, IfOk};
+
+use chill_base::{Boxed, List, NoMemory};
+use nest_systems::{copy_forms, copy_row, copy_term};
+use nest_tree::{Access, Body, KernelRow, Nest, Term};
+use std::alloc::Global;
+
+/// A copy of a cell.
+fn copy_access(alloc: Global, access: &Access) -> Result<Access, NoMemory>
+    ensures { IfOk result (λ a. a ≡ access.now) }
+{
+    Ok(Access {
+        array: access.array,
+        at: copy_forms(alloc, access.at.as_slice())?,
+    })
+}
+
+fn copy_terms(alloc: Global, terms: &[Term]) -> Result<List<Term>, NoMemory>
+    ensures { IfOk result (λ ts. ts ≡ terms.now) }
+{
+    let mut copies = List::new(alloc);
+    for term in terms {
+        copies.push(copy_term(alloc, term)?)?;
+    }
+    Ok(copies)
+}
+
+fn copy_kernel_row(alloc: Global, row: &KernelRow) -> Result<KernelRow, NoMemory>
+    ensures { IfOk result (λ r. r ≡ row.now) }
+{
+    Ok(KernelRow {
+        row: copy_row(alloc, &row.row)?,
+        own: row.own,
+    })
+}
+
+fn copy_rows(alloc: Global, rows: &[KernelRow]) -> Result<List<KernelRow>, NoMemory>
+    ensures { IfOk result (λ rs. rs ≡ rows.now) }
+{
+    let mut copies = List::new(alloc);
+    for row in rows {
+        copies.push(copy_kernel_row(alloc, row)?)?;
+    }
+    Ok(copies)
+}
+
+/// A copy of a right side.
+#[cycle(body)]
+fn copy_body(alloc: Global, body: &Body) -> Result<Body, NoMemory>
+    ensures { IfOk result (λ b. b ≡ body.now) }
+{
+    match body {
+        Body::Const(n) => Ok(Body::Const(*n)),
+        Body::At(access) => Ok(Body::At(copy_access(alloc, access)?)),
+        Body::Plus(a, b) => {
+            let (x, y) = copy_two(alloc, a.get(), b.get())?;
+            Ok(Body::Plus(x, y))
+        }
+        Body::Minus(a, b) => {
+            let (x, y) = copy_two(alloc, a.get(), b.get())?;
+            Ok(Body::Minus(x, y))
+        }
+        Body::Times(a, b) => {
+            let (x, y) = copy_two(alloc, a.get(), b.get())?;
+            Ok(Body::Times(x, y))
+        }
+    }
+}
+
+#[cycle(body)]
+fn copy_two(alloc: Global, a: &Body, b: &Body) -> Result<(Boxed<Body>, Boxed<Body>), NoMemory>
+    ensures { IfOk result (λ p. p ≡ (a.now, b.now)) }
+{
+    let x = copy_body(alloc, a)?;
+    let y = copy_body(alloc, b)?;
+    Ok((Boxed::new(alloc, x)?, Boxed::new(alloc, y)?))
+}
+
+/// A copy of a statement.
+pub fn copy_nest(alloc: Global, nest: &Nest) -> Result<Nest, NoMemory>
+    ensures { IfOk result (λ n. n ≡ nest.now) }
+{
+    let value = copy_body(alloc, &nest.value)?;
+    let rows = copy_rows(alloc, nest.rows.as_slice())?;
+    let terms = copy_terms(alloc, nest.terms.as_slice())?;
+    let target = copy_access(alloc, &nest.target)?;
+    Ok(Nest {
+        levels: List::from_slice(alloc, nest.levels.as_slice())?,
+        positions: List::from_slice(alloc, nest.positions.as_slice())?,
+        terms,
+        rows,
+        target,
+        how: nest.how,
+        value,
+        whole: nest.whole,
+    })
+}
