@@ -1,0 +1,4 @@
+pub mod Targets
+pub mod Named
+pub mod Assembled
+pub mod Found
