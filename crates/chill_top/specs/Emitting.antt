@@ -1,7 +1,7 @@
 -- What `emit` makes of a recipe and a source.
 use Rattle.recipe_read.specs.Recipe as recipes
 use Rattle.emission.specs.Emitting.{IsRecipe, RecipeCause, Emits, Denies}
-use Rattle.chill_top.specs.Jobs.{Job}
+use Rattle.run_jobs.specs.Jobs.{Job}
 
 abbrev pub emitting : Job
 emitting = record {

@@ -1,3 +1,3 @@
-pub mod Jobs
 pub mod Answers
 pub mod Emitting
+pub mod Working

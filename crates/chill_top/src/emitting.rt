@@ -1,12 +1,13 @@
 // `emit RECIPE SOURCE`.
-ghost use Rattle.std.specs.Prelude.{◌≢◌};
-ghost use Rattle.chill_top.specs.Answers.{Does};
+ghost use Rattle.std.specs.Prelude.{◌≢◌, Some};
+ghost use Rattle.command_words.specs.Commands.{emit};
+ghost use Rattle.run_jobs.specs.Counts.{Does};
 ghost use Rattle.chill_top.specs.Emitting.{emitting};
 
-use crate::ending::{stopped, unread};
 use chill_base::{Files, Sink, read_whole, write_all};
 use emission::{commands_of, emitted_by};
 use outcomes::Outcome;
+use run_jobs::{stopped, unread};
 use std::alloc::Global;
 
 /// Reads both files, and writes the text that is made of them.
@@ -17,7 +18,7 @@ pub fn run_emit<F: Files, O: Sink>(
     files: &mut F,
     out: &mut O,
 ) -> Outcome
-    ensures does { Does emitting recipe.now source.now (F.state files.old) (F.state files.new) (O.state out.old) (O.state out.new) result }
+    ensures does { Does emitting (Some (emit recipe.now source.now)) recipe.now source.now (F.state files.old) (F.state files.new) (O.state out.old) (O.state out.new) result }
     ensures usage { result ≢ Outcome.Usage }
 {
     let rules = match read_whole(alloc, files, recipe) {

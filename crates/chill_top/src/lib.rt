@@ -3,7 +3,9 @@
 
 mod answer;
 mod emitting;
-mod ending;
+mod working;
 
 pub use answer::chill;
 pub use emission::emit;
+pub use measured_run::work;
+pub use text_runs::{RunStop, run_program, trace_program};

@@ -12,3 +12,4 @@ pub mod Stays
 pub mod Statements
 pub mod Items
 pub mod Programs
+pub mod Examples

@@ -3,4 +3,4 @@
 
 mod laws;
 
-pub use laws::{programs_can_run, programs_have_divisors};
+pub use laws::{copy_can_run, programs_can_run, programs_have_divisors};

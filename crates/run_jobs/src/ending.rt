@@ -1,9 +1,10 @@
 // How a command ends early.
 ghost use Rattle.std.specs.Prelude.{◌≡◌};
-ghost use Rattle.chill_top.specs.Answers.{outcome_of, outcome_of_stop};
+ghost use Rattle.run_jobs.specs.Counts.{outcome_of, outcome_of_run, outcome_of_stop};
 
 use chill_base::{Stop, Unread};
 use outcomes::{Outcome, Refusal};
+use text_runs::RunStop;
 
 /// The outcome where a file wasn't read whole.
 pub fn unread(file: u8, why: Unread) -> Outcome
@@ -23,5 +24,16 @@ pub fn stopped(stop: Stop<Refusal>) -> Outcome
     match stop {
         Stop::Refused(refusal) => Outcome::Refused(refusal),
         Stop::NoMemory => Outcome::NoMemory,
+    }
+}
+
+/// The outcome where a traced run ended early.
+pub fn run_stopped(stop: RunStop) -> Outcome
+    ensures { result ≡ outcome_of_run stop }
+{
+    match stop {
+        RunStop::Refused(refusal) => Outcome::Refused(refusal),
+        RunStop::WriteFault => Outcome::WriteFault,
+        RunStop::NoMemory => Outcome::NoMemory,
     }
 }
