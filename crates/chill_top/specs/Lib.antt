@@ -1,3 +1,4 @@
 pub mod Answers
 pub mod Emitting
 pub mod Working
+pub mod Headline

@@ -6,6 +6,7 @@ ghost use Rattle.command_words.specs.Commands.{command_of};
 ghost use Rattle.outcomes.specs.Lines.{line_of};
 ghost use Rattle.run_jobs.specs.Counts.{Counts};
 ghost use Rattle.chill_top.specs.Answers.{Answers};
+ghost use Rattle.chill_top.specs.Headline.{Headline, Completes};
 
 use crate::emitting::run_emit;
 use crate::working::run_work;
@@ -16,6 +17,7 @@ use run_jobs::{run_run, run_trace};
 use std::alloc::Global;
 
 /// Does what the words say, and writes a line on `err` for each outcome other than `Done`.
+#[tactic(auto, using(crate::proofs::Headlines::headline, crate::proofs::Headlines::completes))]
 pub fn chill<F: Files, O: Sink, E: Sink>(
     alloc: Global,
     words: &[String],
@@ -25,6 +27,10 @@ pub fn chill<F: Files, O: Sink, E: Sink>(
 ) -> Outcome
     // Each answer has its cause.
     ensures answers { Answers (command_of (map string_bytes words.now)) (F.state files.old) (F.state files.new) (O.state out.old) (O.state out.new) result }
+    // Where `emit` without commands is done on a source of the first form, what `out` took performs as the source does.
+    ensures headline { Headline (command_of (map string_bytes words.now)) (F.state files.old) (O.state out.old) (O.state out.new) result }
+    // Such a call is done, unless the outside fails or memory ends.
+    ensures completes { Completes (command_of (map string_bytes words.now)) (F.state files.old) result }
     // Only words of no command are refused as such.
     ensures usage { result ≡ Outcome.Usage → command_of (map string_bytes words.now) ≡ None }
     // Other than three words, or an empty one or one that begins with `-`, take no memory.
