@@ -1,5 +1,5 @@
 -- What is made of a recipe and a source.
-use Rattle.std.specs.Prelude.{◌≡◌, ◌≤◌, ◌⊎◌, ℕ, List, [], ◌∷◌, length, Option, Some, None, Result, Ok, Err, false, true}
+use Rattle.std.specs.Prelude.{◌≡◌, ◌≤◌, ◌⊎◌, ℕ, List, [], ◌∷◌, length, Option, Some, None, Result, Ok, Err}
 use Rattle.c_tree.specs.declared.program.Program.{Program}
 use Rattle.c_tokens.specs.Pieces.{tokens_of}
 use Rattle.c_grammar.specs.Program.{IsProgram}
