@@ -16,5 +16,5 @@ use Rattle.run_laws.proofs.Programs.{program_can_run}
 pub divides : (ts : List Token) (p : Program) → IsProgram ts p → ExtentsHaveDivisors p
 divides = program_divides
 
-pub can_run : (ts : List Token) (p : Program) (data : List ℕ) (v : Values) → IsProgram ts p → KeepsRules p → Gives p data v → CanInspect p (prepared (params_of v) (arrays_of v))
-can_run ts p data v g k h = program_can_run ts p (params_of v) (arrays_of v) g k h.signature
+pub can_run : (ts : List Token) (p : Program) (input : List ℕ) (v : Values) → IsProgram ts p → KeepsRules p → Gives p input v → CanInspect p (prepared (params_of v) (arrays_of v))
+can_run ts p input v g k h = program_can_run ts p (params_of v) (arrays_of v) g k h.signature

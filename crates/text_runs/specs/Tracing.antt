@@ -1,5 +1,5 @@
 -- What a traced run of the program of a text is on a data text.
-use Rattle.std.specs.Prelude.{◌≡◌, ◌⊎◌, ℕ, List, Bool, true, Result, Ok, Err}
+use Rattle.std.specs.Prelude.{◌≡◌, ◌⊎◌, ℕ, List, true, Result, Ok, Err}
 use Rattle.chill_base.specs.Outside.{SinkState, Rose}
 use Rattle.c_tree.specs.declared.program.Program.{Program}
 use Rattle.c_loops.specs.Programs.{program_of}

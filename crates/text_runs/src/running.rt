@@ -19,7 +19,6 @@ use program_run::run;
 use std::alloc::Global;
 
 /// The text that a program leaves on values.
-#[tactic(auto, using(crate::proofs::Laws::can_run))]
 fn run_on(
     alloc: Global,
     _source: &[u8],

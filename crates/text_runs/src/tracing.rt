@@ -25,7 +25,6 @@ pub enum RunStop {
 }
 
 /// The lines of a program on values.
-#[tactic(auto, using(crate::proofs::Laws::can_run))]
 fn trace_on<S: Sink>(
     alloc: Global,
     _source: &[u8],
