@@ -7,7 +7,7 @@ use Rattle.command_words.specs.Commands.{Command, emit, run, trace, work}
 use Rattle.run_jobs.specs.Jobs.{Cause}
 use Rattle.run_jobs.specs.Running.{running, TraceCause}
 use Rattle.measured_run.specs.Work.{IsSummary, WorkCause}
-use Rattle.measured_run.specs.declared.work.TheConstants.{RECIPE, SOURCE}
+use Rattle.measured_run.specs.declared.making.TheConstants.{RECIPE, SOURCE}
 use Rattle.chill_top.specs.Emitting.{emitting}
 
 -- words of no command are `Usage`, or find no memory

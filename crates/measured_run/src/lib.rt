@@ -2,7 +2,7 @@
 #![tactic(auto)]
 
 mod machine;
+mod making;
 mod summary;
-mod work;
 
-pub use work::{RECIPE, SOURCE, work};
+pub use making::{RECIPE, SOURCE, work};
