@@ -7,7 +7,7 @@ use Rattle.chill_base.specs.declared.whole.Unread.{Unread}
 use Rattle.chill_base.specs.declared.whole.Unread.TheVariants.{Fault, Long, NoMemory as Short}
 use Rattle.command_words.specs.Commands.{Command, emit, run, trace, work}
 use Rattle.outcomes.specs.declared.outcome.Outcome.{Outcome}
-use Rattle.outcomes.specs.declared.outcome.Outcome.TheVariants.{Done, Refused, Usage, ReadFault, WriteFault, NoMemory}
+use Rattle.outcomes.specs.declared.outcome.Outcome.TheVariants.{Done, Refused, ReadFault, WriteFault, NoMemory}
 use Rattle.outcomes.specs.declared.outcome.Refusal.{Refusal}
 use Rattle.outcomes.specs.declared.outcome.Refusal.TheVariants.{FileLong}
 use Rattle.run_jobs.specs.Jobs.{Job, Cause}

@@ -1,6 +1,6 @@
 -- What a command of two files does, and why it gives each of its answers.
-use Rattle.std.specs.Prelude.{◌≡◌, ◌≢◌, ◌≤◌, ◌<◌, ◌⊎◌, ℕ, List, [], length, Some, None}
-use Rattle.chill_base.specs.Outside.{FilesState, SinkState, Shelf, Rose, BothTold, Wrote, IsProperFront}
+use Rattle.std.specs.Prelude.{◌≡◌, ◌≤◌, ◌<◌, ◌⊎◌, ℕ, List, [], length, Some, None}
+use Rattle.chill_base.specs.Outside.{SinkState, Shelf, Rose, Wrote, IsProperFront}
 use Rattle.chill_base.specs.declared.whole.TheConstants.{FILE_LIMIT}
 use Rattle.outcomes.specs.declared.outcome.Outcome.{Outcome}
 use Rattle.outcomes.specs.declared.outcome.Outcome.TheVariants.{Done, Refused, Usage, ReadFault, WriteFault, NoMemory}
