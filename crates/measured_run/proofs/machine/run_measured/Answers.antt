@@ -23,9 +23,9 @@ returns-in-Err-Refused-clause-refused c =
     let e = c.in-Ok.ensures in
     let same : inspector_run c.in-Ok.machine.program.now (state_of_machine c.in-Ok.machine) ≡ inspected p ps ts = λ i. inspector_run (e.1 i) (e.2 i) in
     inl (subst (λ (f : RunFault). Fails p c.args._input.now f) (sym c.in-Err-Refused.fault-is)
-        (failing p c.args._input.now v c.in-Err-Refused.fault c.requires.gives
-            (inl (subst (λ (o : Outcome). Refuses Inspector o c.in-Err-Refused.fault) same
-                (refused_first c.in-Err-Refused.field-0 c.in-Err-Refused.fault _ _ c.in-Err-Refused.field-0-is (c.in-Err-Refused.ensures.ends e.0))))))
+    (failing p c.args._input.now v c.in-Err-Refused.fault c.requires.gives
+    (inl (subst (λ (o : Outcome). Refuses Inspector o c.in-Err-Refused.fault) same
+    (refused_first c.in-Err-Refused.field-0 c.in-Err-Refused.fault _ _ c.in-Err-Refused.field-0-is (c.in-Err-Refused.ensures.ends e.0))))))
 
 pub returns-clause-refused : goal.returns-clause-refused
 returns-clause-refused c =
@@ -35,7 +35,7 @@ returns-clause-refused c =
     let ends = c.in-Ok-inspect.ensures.ends e.0 in
     let is = ap (λ q. q.now) c.in-Ok-inspect.ensures.program ∙ e.1 in
     inl (failing p c.args._input.now v c.in-Err-execute.fault c.requires.gives
-        (traced_fault p ps ts (state_of_machine m) (ap (λ (o : Outcome). o.trouble) (sym same) ∙ ends.0) (ends.1 ∙ ap (λ (o : Outcome). o.last) same)
-            (c.in-Ok-inspect.ensures.values ∙ ap (λ (s : State). s.sight.value) e.2) c.in-Err-execute.fault
-            (subst (λ (q : Program). Refuses Executor (executor_run q (state_of_machine m)) c.in-Err-execute.fault) is
-                (c.in-Err-execute.ensures.ends (c.in-Ok-inspect.ensures.ok refl)).0)))
+    (traced_fault p ps ts (state_of_machine m) (ap (λ (o : Outcome). o.trouble) (sym same) ∙ ends.0) (ends.1 ∙ ap (λ (o : Outcome). o.last) same)
+    (c.in-Ok-inspect.ensures.values ∙ ap (λ (s : State). s.sight.value) e.2) c.in-Err-execute.fault
+    (subst (λ (q : Program). Refuses Executor (executor_run q (state_of_machine m)) c.in-Err-execute.fault) is
+    (c.in-Err-execute.ensures.ends (c.in-Ok-inspect.ensures.ok refl)).0)))
