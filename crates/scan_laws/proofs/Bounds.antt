@@ -1,5 +1,5 @@
 -- Rows that are direct at a level hold exactly where its value is within their bounds.
-use Rattle.std.proofs.Common.{◌≡◌, inl, inr, ℕ, zero, suc, ◌+◌, ◌-◌, ◌<◌, List, [], ◌∷◌, ◌++◌, length, refl, sym, ◌∙◌, ap, subst, arith, ℤ, pos, negsuc, ◌+ℤ◌, ◌*ℤ◌, neg_ℤ, ◌≤ℤ◌, ◌<ℤ◌, Bool, true, false, ◌↔◌, append_assoc, length-append}
+use Rattle.std.proofs.Common.{◌≡◌, inl, inr, ℕ, zero, suc, ◌+◌, ◌-◌, ◌<◌, List, [], ◌∷◌, ◌++◌, length, refl, sym, ◌∙◌, ap, subst, arith, ℤ, pos, negsuc, ◌+ℤ◌, ◌*ℤ◌, neg_ℤ, ◌≤ℤ◌, ◌<ℤ◌, Bool, true, false, append_assoc, length-append}
 use Rattle.std.specs.Int.{int_div_euclid}
 use Rattle.std.proofs.lemmas.Int.{ints}
 use Rattle.chill_base.proofs.Ring.{neg_times}
@@ -9,7 +9,7 @@ use Rattle.int_rows.specs.Rows.{Holds}
 use Rattle.nest_tree.specs.declared.kernel.Nest.{Nest}
 use Rattle.nest_tree.specs.Lists.{IsIn}
 use Rattle.nest_tree.specs.Forms.{value, coef, zeros, MeetsRow}
-use Rattle.nest_tree.specs.Terms.{Input, term_values, with_terms, IsCut, IsDirect}
+use Rattle.nest_tree.specs.Terms.{Input, term_values, IsCut, IsDirect}
 use Rattle.nest_tree.specs.Kernels.{point}
 use Rattle.nest_tree.specs.Loops.{Levels}
 use Rattle.nest_laws.proofs.Lists.{in_append, in_append-left, in_append-right}

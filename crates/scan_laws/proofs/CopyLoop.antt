@@ -1,14 +1,13 @@
 -- The worked cases.
-use Rattle.std.proofs.Common.{◌≡◌, inl, inr, ℕ, zero, suc, ◌+◌, ◌<◌, ◌≤◌, ◌^◌, List, [], ◌∷◌, ◌++◌, map, length, refl, sym, ◌∙◌, ap, subst, arith, ℤ, pos, negsuc, ◌+ℤ◌, ◌*ℤ◌, neg_ℤ, ◌≤ℤ◌, ◌<ℤ◌, int_le, int_lt, nat_le, Bool, true, false, ◌&&◌, Some, unsigned_abs}
-use Rattle.std.specs.Prelude.{None, Ok, Err, if◌then◌else◌}
+use Rattle.std.proofs.Common.{◌≡◌, inl, inr, ℕ, suc, ◌+◌, ◌<◌, ◌≤◌, List, [], ◌∷◌, length, refl, sym, ◌∙◌, ap, subst, arith, ℤ, pos, negsuc, ◌+ℤ◌, neg_ℤ, ◌≤ℤ◌, ◌<ℤ◌, int_le, int_lt, nat_le, Bool, true, ◌&&◌}
+use Rattle.std.specs.Prelude.{Ok, Err, if◌then◌else◌}
 use Rattle.std.specs.Int.{int_div_euclid}
 use Rattle.std.specs.Ordering.{int_eq}
 use Rattle.std.proofs.lemmas.Bool.{and_from}
 use Rattle.std.proofs.lemmas.Bool.Decides.{Decides-int_eq}
 use Rattle.std.proofs.lemmas.Int.{ints}
-use Rattle.int_rows.specs.declared.row.Aff.{Aff}
 use Rattle.int_rows.specs.declared.row.Row.{Row}
-use Rattle.c_tree.specs.declared.index.Index.TheVariants.{Const, Var, At, Plus, Minus}
+use Rattle.c_tree.specs.declared.index.Index.TheVariants.{Const, Var}
 use Rattle.c_tree.specs.declared.index.Subscripts.TheVariants.{One}
 use Rattle.c_tree.specs.declared.statement.How.TheVariants.{Write}
 use Rattle.c_tree.specs.declared.statement.Stmt.TheVariants.{Assign}
@@ -18,36 +17,31 @@ use Rattle.c_meaning.specs.Weighed.{greatest, plain}
 use Rattle.c_meaning.specs.Value.{Answer, Sight, ◌>>=◌, value_of, judged, judged_answer, three_answers, subscripts_of, is_inside}
 use Rattle.c_meaning.specs.Ground.{Step, Ground, load}
 use Rattle.c_meaning.specs.Memory.{Spot}
-use Rattle.c_meaning.specs.Listing.{Scene, bind, assigned, spot, listing, Listing}
-use Rattle.c_meaning.specs.Listing as listings
-use Rattle.c_meaning.specs.Examples.{b, c, i, n, scene, copy_loop, copied, at, spot as spot_of}
+use Rattle.c_meaning.specs.Listing.{Scene, bind, assigned, spot, Listing}
+use Rattle.c_meaning.specs.Examples.{b, c, i, n, scene, copy_loop, copied, at}
 use Rattle.c_meaning.proofs.Equations.{measure-Const, measure-Var, subscripts-One}
 use Rattle.c_meaning.proofs.Parts.{ground-At}
 use Rattle.c_meaning.proofs.Examples.{copies}
-use Rattle.nest_tree.specs.declared.kernel.Nest.{Nest}
 use Rattle.nest_tree.specs.declared.kernel.KernelRow.{KernelRow}
 use Rattle.nest_tree.specs.Lists.{IsIn}
 use Rattle.nest_tree.specs.Forms.{value, MeetsRow, Names}
-use Rattle.nest_tree.specs.Terms.{Input, IsReadable, IsDirect}
+use Rattle.nest_tree.specs.Terms.{IsReadable, IsDirect}
 use Rattle.nest_tree.specs.Kernels.{point, IsMet}
-use Rattle.nest_tree.specs.Places.{Item}
-use Rattle.nest_tree.specs.Loops.{Levels, performed}
+use Rattle.nest_tree.specs.Loops.{Levels}
 use Rattle.nest_tree.specs.Scans.{Slot}
 use Rattle.nest_laws.specs.Acts.{act, spot as acts_spot}
-use Rattle.nest_laws.specs.Trees.{Tree, end, step, turns, bind_all, in_order, IsFine, without_faults, tree_of}
-use Rattle.nest_laws.specs.RunLaws.{MeetsRows, as_items}
+use Rattle.nest_laws.specs.Trees.{Tree, end, step, turns, bind_all, tree_of}
 use Rattle.nest_laws.proofs.Acts as acts
 use Rattle.nest_tree.specs.Levels.{IsInTile}
 use Rattle.nest_laws.proofs.Levels.{quotient_is}
 use Rattle.nest_laws.proofs.Running.{executor}
 use Rattle.scan_laws.specs.Printing.{IsPrinted, none, alone, around}
 use Rattle.scan_laws.specs.Bounds.{lowers, uppers}
-use Rattle.scan_laws.specs.Rows.{depth, rest, next, Scanned, own_low, own_high, maker, slots}
-use Rattle.scan_laws.specs.Laws.{HasKernelList}
+use Rattle.scan_laws.specs.Rows.{rest, next, Scanned, own_low, own_high, maker, slots}
 use Rattle.scan_laws.specs.Examples.{from_zero, below_n, copy_nest, copy_input, WorkedExecutor, WorkedPrinting}
 use Rattle.scan_laws.proofs.Fronts.{front-For, front-Assign}
 use Rattle.scan_laws.proofs.Printing.{printed-fine}
-use Rattle.scan_laws.proofs.Scanned.{scanned_list, below-test, at_most-test}
+use Rattle.scan_laws.proofs.Scanned.{scanned_list}
 
 -- ---- what the loop is, and what its parts give
 abbrev copying : Scene → Tree
@@ -158,18 +152,21 @@ module _ (k : ℕ) where
     follow = λ q r vs inner full meets a. bound_cases r (λ s. MeetsRow (point (copy_input k) copy_nest vs) s) a (meets (record { row = from_zero; own = 1 }) (inl refl)).holds (meets (record { row = below_n; own = 1 }) (inr (inl refl))).holds;
     tested = λ vs full meets. refl;
     enough = λ vs full t h r a. row_cases r (λ s. IsMet (copy_input k) copy_nest vs (record { row = s; own = r.own })) a
-      (record { readable = λ j n. absurd (readable_zero vs full j n); holds = h 0 from_zero (omega arith) refl (inl refl) })
-      (record { readable = λ j n. absurd (readable_n vs full j n); holds = h 0 below_n (omega arith) refl (inr (inl refl)) });
+        (record { readable = λ j n. absurd (readable_zero vs full j n); holds = h 0 from_zero (omega arith) refl (inl refl) })
+        (record { readable = λ j n. absurd (readable_n vs full j n); holds = h 0 below_n (omega arith) refl (inr (inl refl)) });
   }
     where
       no_lower : (e : Levels) → length e < 1 → lowers (next (copy_input k) e) (rest (copy_input k) copy_nest e) (from_zero ∷ below_n ∷ []) ≡ [] → ⊥
       no_lower [] h p = cc
       no_lower (v ∷ e) h p = omega arith
+
       no_upper : (e : Levels) → length e < 1 → uppers (next (copy_input k) e) (rest (copy_input k) copy_nest e) (from_zero ∷ below_n ∷ []) ≡ [] → ⊥
       no_upper [] h p = cc
       no_upper (v ∷ e) h p = omega arith
+
       readable_zero : (vs : Levels) → length vs ≡ 1 → (j : ℕ) → Names from_zero.form ((1 + length vs) + j) → ⊥
       readable_zero vs full j n = behind_zero j (subst (λ (m : ℕ). Names from_zero.form ((1 + m) + j)) full n)
+
       readable_n : (vs : Levels) → length vs ≡ 1 → (j : ℕ) → Names below_n.form ((1 + length vs) + j) → ⊥
       readable_n vs full j n = behind_n j (subst (λ (m : ℕ). Names below_n.form ((1 + m) + j)) full n)
 

@@ -10,7 +10,6 @@ use Rattle.c_tree.specs.declared.statement.Stmt.TheVariants.{For, If, Assign, ou
 use Rattle.c_meaning.specs.Names.{Name}
 use Rattle.c_meaning.specs.Value.{value_of, all_hold}
 use Rattle.c_meaning.specs.Listing.{Scene, assigned}
-use Rattle.nest_tree.specs.Loops.{Levels}
 use Rattle.nest_laws.specs.Trees.{Tree, end, step, turns, when, bind_all, InFront, in_order, tree_layer, in_front}
 
 front_at : (t : Stmt) (d : Stmt-F Stmt) → out-Stmt t ≡ d → in_front t ≡ tree_layer (map-Stmt Stmt InFront in_front d)

@@ -1,6 +1,5 @@
 -- Least and greatest numbers of lists.
 use Rattle.std.proofs.Common.{◌≡◌, inl, inr, List, [], ◌∷◌, refl, sym, subst, arith, ℤ, ◌≤ℤ◌, ◌<ℤ◌}
-use Rattle.std.specs.Int.{int_min, int_max}
 use Rattle.std.proofs.lemmas.Int.{ints, clamps}
 use Rattle.nest_tree.specs.Lists.{IsIn}
 use Rattle.scan_laws.specs.Bounds.{greatest, least}

@@ -1,20 +1,18 @@
 -- What is printed has no fault, and scans the statements.
-use Rattle.std.proofs.Common.{◌≡◌, ℕ, suc, List, [], ◌∷◌, ◌++◌, map, refl, sym, ◌∙◌, ap, subst, arith, ℤ, pos, ◌≤ℤ◌, ◌<ℤ◌, Bool, true, false, IsTrue}
-use Rattle.std.specs.Prelude.{None, Ok}
+use Rattle.std.proofs.Common.{◌≡◌, ℕ, suc, List, [], ◌∷◌, ◌++◌, refl, sym, ◌∙◌, ap, subst, ℤ, pos, ◌≤ℤ◌, ◌<ℤ◌, true, false}
+use Rattle.std.specs.Prelude.{None}
 use Rattle.c_tree.specs.declared.statement.Stmt.{Stmt}
 use Rattle.c_tree.specs.declared.statement.How.TheVariants.{Write}
 use Rattle.c_meaning.specs.Ground.{Step, number}
 use Rattle.c_meaning.specs.Listing.{Scene, listing, Listing}
-use Rattle.c_meaning.specs.Listing as listings
-use Rattle.nest_tree.specs.declared.kernel.Nest.{Nest}
 use Rattle.nest_tree.specs.Places.{Item}
-use Rattle.nest_tree.specs.Loops.{Levels, Loops, performed}
-use Rattle.nest_tree.specs.Scans.{Slot, under, Maker, IsScan}
+use Rattle.nest_tree.specs.Loops.{Levels, performed}
+use Rattle.nest_tree.specs.Scans.{Slot, Maker, IsScan}
 use Rattle.nest_laws.specs.Trees.{Tree, IsFine, or_else, without_faults, tree_of}
 use Rattle.nest_laws.specs.RunLaws.{as_items, slots_of}
 use Rattle.nest_laws.proofs.Running.{executor, scan}
 use Rattle.scan_laws.specs.Printing.{IsPrinted, none, alone, tested, around, around_if}
-use Rattle.scan_laws.specs.Laws.{HasKernelList, PrintedExecutorHasKernelList}
+use Rattle.scan_laws.specs.Laws.{PrintedExecutorHasKernelList}
 use Rattle.scan_laws.proofs.Wrapped.{wrapped, performed-wrapped}
 
 module _ {St : Type 0} (m : Maker St Step) where
@@ -56,12 +54,12 @@ module _ {St : Type 0} (m : Maker St Step) where
         some,
         test',
         λ k. (
-          let low' : or_else (pos 0) (low e) ≡ m.low group e = ap (or_else (pos 0)) (l (sym test' ∙ k)) in
-          let high' : or_else (pos 0) (high e) ≡ m.high group e = ap (or_else (pos 0)) (h (sym test' ∙ k)) in (
-            low',
-            high',
-            λ v a z. printed-scan d body group 0 (e ++ v ∷ []) (b (sym test' ∙ k) v (subst (λ (k : ℤ). k ≤ℤ v) low' a) (subst (λ (k : ℤ). v <ℤ k) high' z)),
-          )),
+            let low' : or_else (pos 0) (low e) ≡ m.low group e = ap (or_else (pos 0)) (l (sym test' ∙ k)) in
+            let high' : or_else (pos 0) (high e) ≡ m.high group e = ap (or_else (pos 0)) (h (sym test' ∙ k)) in (
+              low',
+              high',
+              λ v a z. printed-scan d body group 0 (e ++ v ∷ []) (b (sym test' ∙ k) v (subst (λ (k : ℤ). k ≤ℤ v) low' a) (subst (λ (k : ℤ). v <ℤ k) high' z)),
+            )),
         printed-scan d rest others (suc n) e r,
       )
 

@@ -1,14 +1,12 @@
 -- Bounds made from all rows of all statements of a group fit the group's points, so what is printed by them has the kernel's list.
-use Rattle.std.proofs.Common.{◌≡◌, ◌⊎◌, inl, inr, ℕ, zero, suc, ◌+◌, ◌<◌, List, [], ◌∷◌, ◌++◌, map, length, refl, sym, ◌∙◌, ap, subst, arith, ℤ, ◌≤ℤ◌, ◌<ℤ◌, int_le, int_lt, nat_eq, Bool, true, false, not, ◌&&◌, ◌||◌, append_assoc, append-nil, length-append}
+use Rattle.std.proofs.Common.{◌≡◌, inl, inr, ℕ, zero, suc, ◌+◌, ◌<◌, List, [], ◌∷◌, ◌++◌, map, length, refl, sym, ◌∙◌, ap, subst, arith, ℤ, ◌≤ℤ◌, ◌<ℤ◌, int_le, int_lt, nat_eq, Bool, true, false, not, ◌&&◌, ◌||◌, append_assoc, append-nil, length-append}
 use Rattle.std.specs.Ordering.{int_eq}
 use Rattle.std.specs.List.{list_all}
-use Rattle.std.proofs.lemmas.Bool.{cases_Bool, and_parts, and_from}
+use Rattle.std.proofs.lemmas.Bool.{and_parts, and_from}
 use Rattle.std.proofs.lemmas.Bool.Decides.{Decides-int_eq}
 use Rattle.std.proofs.lemmas.Int.{ints}
 use Rattle.int_rows.specs.declared.row.Row.{Row}
-use Rattle.c_tree.specs.declared.statement.Stmt.{Stmt}
 use Rattle.c_meaning.specs.Ground.{Step}
-use Rattle.c_meaning.specs.Listing.{Scene}
 use Rattle.nest_tree.specs.declared.kernel.Nest.{Nest}
 use Rattle.nest_tree.specs.Lists.{IsIn}
 use Rattle.nest_tree.specs.Places.{place, IsInstance, Item}
@@ -16,15 +14,15 @@ use Rattle.nest_tree.specs.Forms.{MeetsRow}
 use Rattle.nest_tree.specs.Terms.{Input}
 use Rattle.nest_tree.specs.Kernels.{point, item_at, IsItemOf}
 use Rattle.nest_tree.specs.Loops.{Levels}
-use Rattle.nest_tree.specs.Scans.{Slot, under, IsPoint, IsSoundMaker}
+use Rattle.nest_tree.specs.Scans.{Slot, under, IsPoint}
 use Rattle.nest_laws.specs.Acts.{act}
 use Rattle.nest_laws.specs.Trees.{without_faults, tree_of}
 use Rattle.nest_laws.specs.RunLaws.{MeetsRows}
 use Rattle.nest_laws.proofs.Loops.{in_map, map_in}
-use Rattle.nest_laws.proofs.Rewriting.{instance_of, instance-depth}
+use Rattle.nest_laws.proofs.Rewriting.{instance-depth}
 use Rattle.nest_laws.proofs.Scans.{scan-list}
-use Rattle.scan_laws.specs.Bounds.{lowers, uppers, least, greatest}
-use Rattle.scan_laws.specs.Rows.{depth, rest, next, Scanned, own_low, own_high, group_low, group_high, has_bounds, is_within, are_within, is_known, maker, IsFull, IsReadyWhereNeeded, slots}
+use Rattle.scan_laws.specs.Bounds.{lowers, uppers}
+use Rattle.scan_laws.specs.Rows.{depth, rest, next, Scanned, own_low, own_high, group_low, group_high, has_bounds, is_within, are_within, is_known, maker, IsFull, slots}
 use Rattle.scan_laws.specs.Laws.{RowsMakeSoundBounds, ScannedKernelHasItsList}
 use Rattle.scan_laws.proofs.Wrapped.{wrapped}
 use Rattle.scan_laws.proofs.Printing.{printed-fine, printed-scan, some_step, items_of, fine-listing}
@@ -135,18 +133,18 @@ module _ (i : Input) where
 pub sound_bounds : RowsMakeSoundBounds
 sound_bounds i ready need = record {
   bounds = λ group s e v vs ok a d h. (
-    let own = within_own i s.of e v vs h in (
-      least-in (map (λ (x : Slot (Scanned i)). own_low e x.of) group) (own_low e s.of) v (map_in (λ (x : Slot (Scanned i)). own_low e x.of) s group a) own.0,
-      greatest-in (map (λ (x : Slot (Scanned i)). own_high e x.of) group) (own_high e s.of) v (map_in (λ (x : Slot (Scanned i)). own_high e x.of) s group a) own.1,
-    ));
+      let own = within_own i s.of e v vs h in (
+        least-in (map (λ (x : Slot (Scanned i)). own_low e x.of) group) (own_low e s.of) v (map_in (λ (x : Slot (Scanned i)). own_low e x.of) s group a) own.0,
+        greatest-in (map (λ (x : Slot (Scanned i)). own_high e x.of) group) (own_high e s.of) v (map_in (λ (x : Slot (Scanned i)). own_high e x.of) s group a) own.1,
+      ));
   ready = λ group s e v vs ok a d h. need group s e v vs ok a d h;
   settled = λ group s n e v ok a left k l u. known_next i group s n e v ok a k l u;
   tested = λ s e h. s.tested e h.full h.meets;
   enough = λ s p e k t. (
-    let c = and_parts (nat_eq (1 + length e) (suc (depth s.nest))) (are_within s [] e) k in
-    let f : 1 + length e ≡ suc (depth s.nest) = test-number (1 + length e) (suc (depth s.nest)) c.0 in
-    let full : length e ≡ depth s.nest = omega arith in
-    record { full = full; meets = s.enough e full t (λ q r inner settled a. settled_rows i s e full c.1 q r inner settled a) });
+      let c = and_parts (nat_eq (1 + length e) (suc (depth s.nest))) (are_within s [] e) k in
+      let f : 1 + length e ≡ suc (depth s.nest) = test-number (1 + length e) (suc (depth s.nest)) c.0 in
+      let full : length e ≡ depth s.nest = omega arith in
+      record { full = full; meets = s.enough e full t (λ q r inner settled a. settled_rows i s e full c.1 q r inner settled a) });
 }
 
 item_is : (x y : Item Step) → x.place ≡ y.place → x.step ≡ y.step → x ≡ y

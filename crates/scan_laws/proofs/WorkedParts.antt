@@ -1,16 +1,14 @@
 -- A bound with a read, and a small expression with a read.
-use Rattle.std.proofs.Common.{◌≡◌, ◌⊎◌, inl, inr, ℕ, zero, suc, ◌+◌, ◌<◌, ◌≤◌, ◌^◌, List, [], ◌∷◌, ◌++◌, length, refl, sym, ◌∙◌, ap, subst, arith, ℤ, pos, negsuc, ◌+ℤ◌, ◌*ℤ◌, neg_ℤ, ◌≤ℤ◌, ◌<ℤ◌, Some, unsigned_abs, Bool, true, false}
+use Rattle.std.proofs.Common.{◌≡◌, inl, inr, ℕ, zero, suc, ◌+◌, ◌<◌, ◌≤◌, ◌^◌, List, [], ◌∷◌, refl, ◌∙◌, ap, subst, arith, ℤ, pos, Some, unsigned_abs, Bool, true, false}
 use Rattle.std.specs.Prelude.{None, if◌then◌else◌}
-use Rattle.std.proofs.lemmas.Int.{ints}
 use Rattle.int_rows.specs.declared.row.Aff.{Aff}
 use Rattle.c_tree.specs.declared.index.Index.TheVariants.{Const, Var, At, Plus}
 use Rattle.c_tree.specs.declared.index.Subscripts.TheVariants.{One}
 use Rattle.c_meaning.specs.Value.{cell_seen, is_inside}
 use Rattle.c_meaning.specs.Examples.{i}
-use Rattle.nest_tree.specs.declared.kernel.Term.{Term}
-use Rattle.nest_tree.specs.Lists.{IsIn, IsAt}
-use Rattle.nest_tree.specs.Forms.{value, coef, Names}
-use Rattle.nest_tree.specs.Terms.{IsReady, ready, IsDirect, with_terms, IsCut}
+use Rattle.nest_tree.specs.Lists.{IsIn}
+use Rattle.nest_tree.specs.Forms.{coef, Names}
+use Rattle.nest_tree.specs.Terms.{IsReady, ready, IsDirect, IsCut}
 use Rattle.nest_laws.specs.Weights.{KeepsTo, HasSize, const, name, one, plus, minus}
 use Rattle.nest_laws.proofs.Bounding.{bounds}
 use Rattle.nest_laws.proofs.Weights.{small}
@@ -31,6 +29,7 @@ next_ready =
     levels f zero (inl e) n l = omega arith
     levels f (suc zero) (inl e) n l = omega arith
     levels f (suc (suc j)) (inl e) n l = absurd (n (ap (λ (g : Aff). coef (suc (suc j)) g.coefs) e))
+
     none : (f : Aff) (m : ℕ) → IsIn f (record { coefs = pos 0 ∷ pos 1 ∷ []; constant = pos 1 } ∷ []) → Names f (3 + m) → ⊥
     none f m (inr h) n = h
     none f m (inl e) n = let s : 3 + m ≡ suc (suc (suc m)) = omega arith in n (ap (λ (k : ℕ). coef k f.coefs) s ∙ ap (λ (g : Aff). coef (suc (suc (suc m))) g.coefs) e)
@@ -64,6 +63,7 @@ keeps = record { names = λ y. omega arith; cells = λ a at v h. seen a at v h }
     cases_seen : (t : Bool) (v : ℤ) → (if t then Some (pos 5) else None) ≡ Some v → unsigned_abs v ≤ 2 ^ 24
     cases_seen true v h = let e : pos 5 ≡ v = cc in subst (λ (z : ℤ). unsigned_abs z ≤ 2 ^ 24) e (omega arith)
     cases_seen false v h = absurd cc
+
     seen : (a : List ℕ) (at : List ℤ) (v : ℤ) → cell_seen x_sight a at ≡ Some v → unsigned_abs v ≤ 2 ^ 24
     seen a at v h = cases_seen (is_inside at (pos 4 ∷ pos 1 ∷ pos 1 ∷ [])) v h
 

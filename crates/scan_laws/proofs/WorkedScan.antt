@@ -1,28 +1,25 @@
 -- A maker and loops that meet what is asked of a scan, for a statement without terms.
-use Rattle.std.proofs.Common.{◌≡◌, ◌⊎◌, inl, inr, ℕ, zero, suc, ◌+◌, List, [], ◌∷◌, ◌++◌, length, refl, sym, ◌∙◌, ap, subst, arith, ℤ, pos, negsuc, ◌+ℤ◌, ◌*ℤ◌, ◌≤ℤ◌, ◌<ℤ◌, int_le, Bool, true, false, not, ◌&&◌, ◌||◌, IsTrue, drop}
+use Rattle.std.proofs.Common.{◌≡◌, inl, inr, ℕ, zero, suc, ◌+◌, List, [], ◌∷◌, ◌++◌, length, refl, sym, ◌∙◌, ap, arith, ℤ, pos, negsuc, ◌+ℤ◌, ◌*ℤ◌, ◌≤ℤ◌, ◌<ℤ◌, int_le, Bool, true, false, not, ◌&&◌, drop}
 use Rattle.std.specs.Ordering.{int_eq}
 use Rattle.std.specs.List.{list_all, list_any}
 use Rattle.std.proofs.lemmas.Bool.{and_parts, and_from, or_cases}
 use Rattle.std.proofs.lemmas.Bool.Decides.{Decides-int_eq}
 use Rattle.std.proofs.lemmas.Int.{ints}
-use Rattle.int_rows.specs.declared.row.Aff.{Aff}
-use Rattle.int_rows.specs.declared.row.Row.{Row}
 use Rattle.int_rows.specs.Rows.{dot, Holds}
 use Rattle.c_meaning.specs.Ground.{Step}
 use Rattle.nest_tree.specs.declared.kernel.Nest.{Nest}
 use Rattle.nest_tree.specs.declared.kernel.KernelRow.{KernelRow}
 use Rattle.nest_tree.specs.Lists.{IsIn}
-use Rattle.nest_tree.specs.Forms.{value, coef, MeetsRow, Names}
-use Rattle.nest_tree.specs.Terms.{Input, term_values, IsFound, found, IsReadable}
+use Rattle.nest_tree.specs.Forms.{value, coef, MeetsRow}
+use Rattle.nest_tree.specs.Terms.{term_values, IsFound, found}
 use Rattle.nest_tree.specs.Kernels.{point, IsMet}
-use Rattle.nest_tree.specs.Places.{IsInstance}
 use Rattle.nest_tree.specs.Loops.{Levels, Loops, stop, assign, loop, guard}
-use Rattle.nest_tree.specs.Scans.{Slot, under, Maker, IsScan, IsSoundMaker}
+use Rattle.nest_tree.specs.Scans.{Slot, Maker, IsScan, IsSoundMaker}
 use Rattle.nest_laws.specs.Acts.{act}
 use Rattle.nest_laws.specs.RunLaws.{MeetsRows, slots_of}
 use Rattle.nest_laws.proofs.Made.{coef-drop}
 use Rattle.nest_laws.proofs.Running.{scan}
-use Rattle.scan_laws.specs.Examples.{from_zero, below_n, copy_nest, copy_input, WorkedScan}
+use Rattle.scan_laws.specs.Examples.{copy_nest, copy_input, WorkedScan}
 use Rattle.scan_laws.proofs.Scanned.{all_in, at_most-test, test-at_most, test-same}
 
 -- ---- a test of a row, exact where there are no index arrays

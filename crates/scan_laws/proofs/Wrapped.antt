@@ -1,5 +1,5 @@
 -- A tree in which each assignment that stands without a test gets one that is true: it performs the same.
-use Rattle.std.proofs.Common.{◌≡◌, ℕ, suc, ◌+◌, List, [], ◌∷◌, ◌++◌, map, refl, sym, ◌∙◌, ap, subst, arith, ℤ, ◌-ℤ◌, Bool, true, false, if◌then◌else◌}
+use Rattle.std.proofs.Common.{◌≡◌, ℕ, suc, ◌+◌, List, [], ◌∷◌, ◌++◌, map, refl, ◌∙◌, ap, arith, ℤ, ◌-ℤ◌, Bool, true, false, if◌then◌else◌}
 use Rattle.nest_tree.specs.Places.{Item}
 use Rattle.nest_tree.specs.Loops.{Levels, Loops, stop, assign, loop, guard, width, above_zero, turns, inside, performed}
 

@@ -1,6 +1,5 @@
 -- Worked cases: a loop that copies an array, a bound with a read, and an expression of a small size.
-use Rattle.std.specs.Prelude.{◌≡◌, ◌↔◌, ℕ, zero, suc, ◌+◌, ◌*◌, ◌≤◌, ◌^◌, ℤ, pos, negsuc, ◌≤ℤ◌, ◌<ℤ◌, List, [], ◌∷◌, map, Bool, true, false, IsTrue, Option, Some, None, Ok, if◌then◌else◌, unsigned_abs}
-use Rattle.std.specs.Ordering.{int_eq}
+use Rattle.std.specs.Prelude.{◌≡◌, ◌↔◌, ℕ, zero, suc, ◌+◌, ◌≤◌, ◌^◌, ℤ, pos, negsuc, ◌≤ℤ◌, ◌<ℤ◌, List, [], ◌∷◌, Bool, true, false, IsTrue, Option, Some, None, Ok}
 use Rattle.int_rows.specs.declared.row.Aff.{Aff}
 use Rattle.int_rows.specs.declared.row.Row.{Row}
 use Rattle.c_tree.specs.declared.index.Index.{Index}
@@ -8,21 +7,16 @@ use Rattle.c_tree.specs.declared.index.Index.TheVariants.{Const, Var, At, Plus, 
 use Rattle.c_tree.specs.declared.index.Subscripts.TheVariants.{One}
 use Rattle.c_tree.specs.declared.statement.How.TheVariants.{Write}
 use Rattle.c_meaning.specs.Weighed.{greatest}
-use Rattle.c_meaning.specs.Names.{same_name}
 use Rattle.c_meaning.specs.Value.{Sight, value_of}
 use Rattle.c_meaning.specs.Ground.{Step}
-use Rattle.c_meaning.specs.Listing.{Scene}
-use Rattle.c_meaning.specs.Examples.{b, c, i, n, scene, copy_loop, copied}
+use Rattle.c_meaning.specs.Examples.{b, c, i, scene, copy_loop, copied}
 use Rattle.nest_tree.specs.declared.kernel.Nest.{Nest}
-use Rattle.nest_tree.specs.declared.kernel.KernelRow.{KernelRow}
 use Rattle.nest_tree.specs.declared.kernel.Term.{Term}
-use Rattle.nest_tree.specs.declared.body.Access.{Access}
-use Rattle.nest_tree.specs.declared.body.Body.{Body}
 use Rattle.nest_tree.specs.declared.body.Body.TheVariants.{At as Read}
 use Rattle.nest_tree.specs.declared.form.Form.TheVariants.{Other}
-use Rattle.nest_tree.specs.Forms.{value, coef}
+use Rattle.nest_tree.specs.Forms.{value}
 use Rattle.nest_tree.specs.Terms.{Input, IsCut, IsDirect, with_terms}
-use Rattle.nest_tree.specs.Loops.{Levels, Loops, stop, assign, loop, guard, performed}
+use Rattle.nest_tree.specs.Loops.{Levels, Loops, performed}
 use Rattle.nest_tree.specs.Kernels.{point, IsKernelList}
 use Rattle.nest_tree.specs.Scans.{Slot, Maker, IsScan, IsSoundMaker}
 use Rattle.nest_laws.specs.Acts.{act}

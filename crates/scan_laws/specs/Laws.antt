@@ -1,6 +1,5 @@
 -- Laws of scans: what is printed for a kernel runs without a fault and performs the kernel's list, and bounds that are made from rows fit.
-use Rattle.std.specs.Prelude.{◌≡◌, ◌↔◌, ℕ, ◌+◌, Bool, true, IsTrue, List, [], ◌∷◌, ◌++◌, map, length, ℤ, ◌≤ℤ◌, ◌<ℤ◌, None}
-use Rattle.std.specs.List.{AllByRecursion}
+use Rattle.std.specs.Prelude.{◌≡◌, ◌↔◌, ◌+◌, Bool, IsTrue, List, [], ◌∷◌, ◌++◌, map, length, ℤ, ◌≤ℤ◌, ◌<ℤ◌, None}
 use Rattle.c_tree.specs.declared.statement.Stmt.{Stmt}
 use Rattle.c_meaning.specs.Ground.{Step}
 use Rattle.c_meaning.specs.Listing.{Scene, listing}
@@ -8,8 +7,8 @@ use Rattle.int_rows.specs.declared.row.Row.{Row}
 use Rattle.nest_tree.specs.declared.kernel.Nest.{Nest}
 use Rattle.nest_tree.specs.Lists.{IsIn}
 use Rattle.nest_tree.specs.Places.{Item}
-use Rattle.nest_tree.specs.Forms.{MeetsRow, coef}
-use Rattle.nest_tree.specs.Terms.{Input, IsDirect, with_terms}
+use Rattle.nest_tree.specs.Forms.{MeetsRow}
+use Rattle.nest_tree.specs.Terms.{Input, IsDirect}
 use Rattle.nest_tree.specs.Kernels.{point, IsKernelList}
 use Rattle.nest_tree.specs.Loops.{Levels}
 use Rattle.nest_tree.specs.Scans.{Slot, Maker, IsSoundMaker}

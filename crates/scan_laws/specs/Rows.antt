@@ -1,5 +1,5 @@
 -- A scan that makes bounds and tests from rows of its statements.
-use Rattle.std.specs.Prelude.{◌≡◌, ℕ, zero, suc, ◌+◌, ◌-◌, ◌<◌, ◌≤◌, List, [], ◌∷◌, ◌++◌, map, length, take, ℤ, pos, Bool, true, not, ◌&&◌, ◌||◌, IsTrue, nat_eq, int_le, int_lt}
+use Rattle.std.specs.Prelude.{◌≡◌, ℕ, suc, ◌+◌, ◌-◌, ◌<◌, List, [], ◌∷◌, ◌++◌, map, length, ℤ, Bool, true, not, ◌&&◌, ◌||◌, IsTrue, nat_eq, int_le, int_lt}
 use Rattle.std.specs.Ordering.{int_eq}
 use Rattle.std.specs.List.{list_all}
 use Rattle.int_rows.specs.declared.row.Aff.{Aff}

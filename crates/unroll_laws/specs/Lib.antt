@@ -1,0 +1,3 @@
+pub mod Recasting
+pub mod Grouping
+pub mod Laws

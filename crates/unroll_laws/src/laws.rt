@@ -1,0 +1,12 @@
+// Unrolled statements.
+ghost use Rattle.unroll_laws.specs.Laws.{GroupPieceStandsForOld, UnrolledStatementIsOneToOne};
+
+/// A copy of the full loop, or a rest, is the old statement at the values of its groups.
+pub fn group_piece_stands_for_old()
+    ensures { GroupPieceStandsForOld }
+{}
+
+/// Copies and rests take each old instance to one new point of one piece.
+pub fn unrolled_statement_is_one_to_one()
+    ensures { UnrolledStatementIsOneToOne }
+{}
