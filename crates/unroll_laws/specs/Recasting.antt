@@ -41,6 +41,10 @@ old_width params m = params + length (m.old).levels
 abbrev pub new_width : ℕ → Move → ℕ
 new_width params m = params + length (m.piece).levels
 
+-- no term holds itself, if there are terms
+abbrev pub HaveSomeRanks : ℕ → List Term → Type 0
+HaveSomeRanks width terms = (length terms ≡ 0) ⊎ ((rank : ℕ → ℕ) × HaveRanks width terms rank)
+
 -- some row of the list holds the term
 abbrev pub HoldsTerm : ℕ → List Term → List KernelRow → ℕ → Type 0
 HoldsTerm width terms rows j = (r : KernelRow) × IsIn r rows × IsHeld width terms (r.row).form j
@@ -62,10 +66,8 @@ pub record IsRecast (params : ℕ) (marked : ℕ → Bool) (m : Move) : Type 0 w
   pub are_old : (r : KernelRow) → IsIn r kept → IsIn r (m.old).rows
   pub says : Pairwise (RecastsRow (old_variables params m)) kept recast
   pub rows : (m.new).rows ≡ recast ++ (m.piece).rows
-  pub old_rank : ℕ → ℕ
-  pub old_ranks : HaveRanks (old_width params m) (m.old).terms old_rank
-  pub new_rank : ℕ → ℕ
-  pub new_ranks : HaveRanks (new_width params m) (m.new).terms new_rank
+  pub old_ranks : HaveSomeRanks (old_width params m) (m.old).terms
+  pub new_ranks : HaveSomeRanks (new_width params m) (m.new).terms
   pub closed : (k j : ℕ) (t : Term) (f : Aff) → marked k ≡ true → IsAt k t (m.old).terms → IsIn f t.at → Names f (old_width params m + j) → marked j ≡ true
   pub plain : (k : ℕ) (t u : Term) → marked k ≡ true → IsAt k t (m.old).terms → IsAt k u (m.new).terms → Pairwise (SaysSame (old_width params m) (new_width params m)) t.at u.at
   pub marked_old : (j : ℕ) → marked j ≡ true → HoldsTerm (old_width params m) (m.old).terms (m.old).rows j

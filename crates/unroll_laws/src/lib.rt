@@ -3,4 +3,4 @@
 
 mod laws;
 
-pub use laws::{group_piece_stands_for_old, unrolled_statement_is_one_to_one};
+pub use laws::{group_piece_stands_for_old, unrolled_statement_is_one_to_one, worked_unrolling};
