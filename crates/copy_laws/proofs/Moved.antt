@@ -74,6 +74,13 @@ before-first at p q ps qs vs ws h =
     step xs ys (inl l) = inl (let m : p < q = omega (arith, ints) in let n = bumped-order at p q m in omega (arith, ints))
     step xs ys (inr (e, r)) = inr (let f : p ≡ q = omega (arith, ints) in ap (λ (n : ℕ). pos (bumped at n)) f, r)
 
+by_test : (front : List ℕ) (at : ℕ) (ps qs : List ℕ) (vs ws : List ℤ) (a b : Bool) → a ≡ b → IsBefore (place ps vs) (place qs ws) → IsBefore (place (moved front at ps) vs) (place (moved front at qs) ws)
+    → IsBefore (place (cond a (moved front at ps) ps) vs) (place (cond b (moved front at qs) qs) ws)
+by_test front at ps qs vs ws true true e h k = k
+by_test front at ps qs vs ws false false e h k = h
+by_test front at ps qs vs ws true false e h k = absurd cc
+by_test front at ps qs vs ws false true e h k = absurd cc
+
 pub before-moved : (front : List ℕ) (at : ℕ) (ps qs : List ℕ) (vs ws : List ℤ) → IsInstance ps vs → IsInstance qs ws → IsBefore (place ps vs) (place qs ws) → IsBefore (place (moved front at ps) vs) (place (moved front at qs) ws)
 before-moved front at [] qs vs ws i j h = absurd i
 before-moved front at (p ∷ ps) [] vs ws i j h = absurd j
@@ -92,13 +99,7 @@ before-moved (f ∷ front) at (p ∷ p' ∷ ps) (q ∷ q' ∷ qs) (v ∷ vs) (w 
 before-moved (f ∷ front) at (p ∷ p' ∷ ps) (q ∷ q' ∷ qs) (v ∷ vs) (w ∷ ws) i j (inr (e, inl l)) = inr (e, inl l)
 before-moved (f ∷ front) at (p ∷ p' ∷ ps) (q ∷ q' ∷ qs) (v ∷ vs) (w ∷ ws) i j (inr (e, inr (g, r))) =
     let same : nat_eq f p ≡ nat_eq f q = (let k : p ≡ q = omega (arith, ints) in ap (nat_eq f) k) in
-    inr (e, inr (g, by_test (nat_eq f p) (nat_eq f q) same))
-  where
-    by_test : (a b : Bool) → a ≡ b → IsBefore (place (cond a (moved front at (p' ∷ ps)) (p' ∷ ps)) vs) (place (cond b (moved front at (q' ∷ qs)) (q' ∷ qs)) ws)
-    by_test true true e = before-moved front at (p' ∷ ps) (q' ∷ qs) vs ws i j r
-    by_test false false e = r
-    by_test true false e = absurd cc
-    by_test false true e = absurd cc
+    inr (e, inr (g, by_test front at (p' ∷ ps) (q' ∷ qs) vs ws (nat_eq f p) (nat_eq f q) same r (before-moved front at (p' ∷ ps) (q' ∷ qs) vs ws i j r)))
 
 -- so instances that have one place after it are one
 pub moved-one : (front : List ℕ) (at : ℕ) (ps qs : List ℕ) (vs ws : List ℤ) → IsInstance ps vs → IsInstance qs ws → place (moved front at ps) vs ≡ place (moved front at qs) ws → (ps ≡ qs) × (vs ≡ ws)

@@ -1,19 +1,18 @@
 -- The laws of printed tests and bounds.
-use Rattle.std.proofs.Common.{◌≡◌, ◌⊎◌, inl, inr, ℕ, ◌+◌, ◌≤◌, ◌^◌, max, List, [], ◌∷◌, refl, sym, ◌∙◌, ap, arith, ℤ, pos, negsuc, ◌≤ℤ◌, ◌<ℤ◌, unsigned_abs, Bool, true, false}
-use Rattle.std.specs.Prelude.{Ok, if◌then◌else◌}
+use Rattle.std.proofs.Common.{◌≡◌, ◌⊎◌, inl, inr, ℕ, ◌+◌, ◌≤◌, ◌^◌, max, List, [], ◌∷◌, refl, sym, ◌∙◌, ap, subst, arith, ℤ, pos, negsuc, ◌≤ℤ◌, ◌<ℤ◌, unsigned_abs, Bool, true, false}
+use Rattle.std.specs.Prelude.{Some, None, Ok, if◌then◌else◌}
 use Rattle.std.specs.Int.{int_min, int_max}
 use Rattle.std.proofs.lemmas.Int.{ints}
 use Rattle.c_tree.specs.declared.index.Index.{Index}
 use Rattle.c_tree.specs.declared.index.Index.TheVariants.{Const, Var}
 use Rattle.c_tree.specs.declared.statement.Test.{Test}
-use Rattle.c_meaning.specs.Value.{Answer, Sight, ◌>>=◌, compares, value_of, holds, all_hold}
+use Rattle.c_meaning.specs.Value.{Answer, Sight, ◌>>=◌, is_inside, compares, value_of, holds, all_hold}
 use Rattle.c_meaning.specs.Examples.{i}
 use Rattle.nest_tree.specs.Lists.{Pairwise}
 use Rattle.nest_laws.specs.Weights.{Sizes, KeepsTo, HasSize, const, name, one, lesser, greater}
 use Rattle.nest_laws.proofs.Weights.{small}
 use Rattle.scan_laws.specs.Bounds.{greatest, least}
 use Rattle.scan_laws.specs.Examples.{x, x_sight, x_sizes}
-use Rattle.scan_laws.proofs.WorkedParts.{keeps}
 use Rattle.print_laws.specs.Printed.{AreAsked, none, next, IsSized, greatest_of, least_of}
 use Rattle.print_laws.specs.Laws.{AllAreTrue, OrderedTestsHaveAnswer, NestedBoundsHaveValue, LevelKeepsToSize}
 use Rattle.print_laws.specs.Examples.{tests, WorkedTests, WorkedBound}
@@ -72,6 +71,13 @@ pub level : LevelKeepsToSize
 level low high v n a b l u = grind (arith, ints)
 
 -- ---- worked cases
+small_cell : (t : Bool) (v : ℤ) → (if t then Some (pos 5) else None) ≡ Some v → unsigned_abs v ≤ 2 ^ 24
+small_cell true v h = let e : pos 5 ≡ v = cc in subst (λ (z : ℤ). unsigned_abs z ≤ 2 ^ 24) e (omega arith)
+small_cell false v h = absurd cc
+
+keeps : KeepsTo x_sizes x_sight
+keeps = record { names = λ y. omega arith; cells = λ a at v h. small_cell (is_inside at (pos 4 ∷ pos 1 ∷ pos 1 ∷ [])) v h }
+
 asked : AreAsked x_sizes x_sight tests
 asked =
     next _ _ (pos 1) (pos 0) (2 ^ 24) 0 (name i) (omega arith) (const (pos 0)) (omega arith)

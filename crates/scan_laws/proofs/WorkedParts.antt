@@ -57,7 +57,7 @@ cut k = record { same_length = refl; is_variable = omega arith; before = same; z
 pub worked_bounds : WorkedBounds
 worked_bounds k = (cut k, direct, refl, (bounds x_input x_terms (pos 3 ∷ pos 1 ∷ k ∷ []) (pos 3 ∷ pos 1 ∷ pos 0 ∷ []) 2 below_next (cut k) direct).2 0 refl)
 
-pub keeps : KeepsTo x_sizes x_sight
+keeps : KeepsTo x_sizes x_sight
 keeps = record { names = λ y. omega arith; cells = λ a at v h. seen a at v h }
   where
     cases_seen : (t : Bool) (v : ℤ) → (if t then Some (pos 5) else None) ≡ Some v → unsigned_abs v ≤ 2 ^ 24
