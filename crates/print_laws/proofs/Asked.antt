@@ -88,17 +88,16 @@ pub worked_tests : WorkedTests
 worked_tests = (asked, (let r = ordered x_sizes x_sight tests keeps asked in r.1 ∙ ap (λ (b : Bool). let a : Answer Bool = Ok b in a) (r.3 all_true)))
   where
     all_true : AllAreTrue tests x_sight
-    all_true =
+    all_true = (
+      test_is x_sight _ (pos 1) (pos 0) (small x_sizes x_sight (Var i) (pos 1) (2 ^ 24) keeps (name i) (omega arith)).0 (small x_sizes x_sight (Const (pos 0)) (pos 0) 0 keeps (const (pos 0)) (omega arith)).0,
+      (
+        test_is x_sight _ (pos 1) (pos 3) (small x_sizes x_sight (Var i) (pos 1) (2 ^ 24) keeps (name i) (omega arith)).0 (small x_sizes x_sight (Const (pos 3)) (pos 3) 3 keeps (const (pos 3)) (omega arith)).0,
         (
-          test_is x_sight _ (pos 1) (pos 0) (small x_sizes x_sight (Var i) (pos 1) (2 ^ 24) keeps (name i) (omega arith)).0 (small x_sizes x_sight (Const (pos 0)) (pos 0) 0 keeps (const (pos 0)) (omega arith)).0,
-          (
-            test_is x_sight _ (pos 1) (pos 3) (small x_sizes x_sight (Var i) (pos 1) (2 ^ 24) keeps (name i) (omega arith)).0 (small x_sizes x_sight (Const (pos 3)) (pos 3) 3 keeps (const (pos 3)) (omega arith)).0,
-            (
-              test_is x_sight _ (pos 5) (pos 5) (small x_sizes x_sight _ (pos 5) (2 ^ 24) keeps (one x (Var i) (pos 1) (pos 5) (2 ^ 24) (name i) (omega arith) refl) (omega arith)).0 (small x_sizes x_sight (Const (pos 5)) (pos 5) 5 keeps (const (pos 5)) (omega arith)).0,
-              tt,
-            ),
-          ),
-        )
+          test_is x_sight _ (pos 5) (pos 5) (small x_sizes x_sight _ (pos 5) (2 ^ 24) keeps (one x (Var i) (pos 1) (pos 5) (2 ^ 24) (name i) (omega arith) refl) (omega arith)).0 (small x_sizes x_sight (Const (pos 5)) (pos 5) 5 keeps (const (pos 5)) (omega arith)).0,
+          tt,
+        ),
+      ),
+    )
 
 pub worked_bound : WorkedBound
 worked_bound = (nested x_sizes x_sight (2 ^ 24) (Const (pos 0)) (Var i ∷ []) (pos 0) (pos 1 ∷ []) ((0, const (pos 0), omega arith), ((2 ^ 24, name i, omega arith), tt))).0

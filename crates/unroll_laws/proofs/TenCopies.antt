@@ -98,6 +98,7 @@ short_rest f (inr (inr (inr (inr (inl e))))) = let l : length f.coefs ≡ 2 = ap
 short_rest f (inr (inr (inr (inr (inr h))))) = absurd h
 
 full_piece : (c : ℕ) → IsGroupPiece 0 0 4 from_zero to_nine none_marked full c (copies c)
+unfolding recast
 full_piece c = record {
   recast = recast (copies c).piece (group_forms full 4 c 0 from_zero to_nine) 1 refl refl (short_full c) refl refl;
   goes = gone;
@@ -111,6 +112,7 @@ full_piece c = record {
 }
 
 rest_piece : IsGroupPiece 0 0 4 from_zero to_nine none_marked (rest 0) 0 (rests 0)
+unfolding recast
 rest_piece = record {
   recast = recast (rests 0).piece (group_forms (rest 0) 4 0 0 from_zero to_nine) 2 refl refl short_rest refl refl;
   goes = gone;
