@@ -4,7 +4,9 @@ use Rattle.std.specs.Prelude.{Some, None, Ok, if◌then◌else◌}
 use Rattle.std.specs.Int.{int_min, int_max}
 use Rattle.std.proofs.lemmas.Int.{ints}
 use Rattle.c_tree.specs.declared.index.Index.{Index}
-use Rattle.c_tree.specs.declared.index.Index.TheVariants.{Const, Var}
+use Rattle.c_tree.specs.declared.index.Index.TheVariants.{Const, Var, At}
+use Rattle.c_tree.specs.declared.index.Subscripts.TheVariants.{One}
+use Rattle.c_tree.specs.declared.statement.Cmp.TheVariants.{AtMost, AtLeast, Same}
 use Rattle.c_tree.specs.declared.statement.Test.{Test}
 use Rattle.c_meaning.specs.Value.{Answer, Sight, ◌>>=◌, is_inside, compares, value_of, holds, all_hold}
 use Rattle.c_meaning.specs.Examples.{i}
@@ -15,7 +17,7 @@ use Rattle.scan_laws.specs.Bounds.{greatest, least}
 use Rattle.scan_laws.specs.Examples.{x, x_sight, x_sizes}
 use Rattle.print_laws.specs.Printed.{AreAsked, none, next, IsSized, greatest_of, least_of}
 use Rattle.print_laws.specs.Laws.{AllAreTrue, OrderedTestsHaveAnswer, NestedBoundsHaveValue, LevelKeepsToSize}
-use Rattle.print_laws.specs.Examples.{tests, WorkedTests, WorkedBound}
+use Rattle.print_laws.specs.Examples.{test, tests, WorkedTests, WorkedBound}
 
 -- ---- tests
 test_is : (s : Sight) (t : Test) (v w : ℤ) → value_of t.left s ≡ Ok v → value_of t.right s ≡ Ok w → holds t s ≡ Ok (compares t.cmp v w)
@@ -89,11 +91,11 @@ worked_tests = (asked, (let r = ordered x_sizes x_sight tests keeps asked in r.1
   where
     all_true : AllAreTrue tests x_sight
     all_true = (
-      test_is x_sight _ (pos 1) (pos 0) (small x_sizes x_sight (Var i) (pos 1) (2 ^ 24) keeps (name i) (omega arith)).0 (small x_sizes x_sight (Const (pos 0)) (pos 0) 0 keeps (const (pos 0)) (omega arith)).0,
+      test_is x_sight (test (Var i) AtLeast (Const (pos 0))) (pos 1) (pos 0) (small x_sizes x_sight (Var i) (pos 1) (2 ^ 24) keeps (name i) (omega arith)).0 (small x_sizes x_sight (Const (pos 0)) (pos 0) 0 keeps (const (pos 0)) (omega arith)).0,
       (
-        test_is x_sight _ (pos 1) (pos 3) (small x_sizes x_sight (Var i) (pos 1) (2 ^ 24) keeps (name i) (omega arith)).0 (small x_sizes x_sight (Const (pos 3)) (pos 3) 3 keeps (const (pos 3)) (omega arith)).0,
+        test_is x_sight (test (Var i) AtMost (Const (pos 3))) (pos 1) (pos 3) (small x_sizes x_sight (Var i) (pos 1) (2 ^ 24) keeps (name i) (omega arith)).0 (small x_sizes x_sight (Const (pos 3)) (pos 3) 3 keeps (const (pos 3)) (omega arith)).0,
         (
-          test_is x_sight _ (pos 5) (pos 5) (small x_sizes x_sight _ (pos 5) (2 ^ 24) keeps (one x (Var i) (pos 1) (pos 5) (2 ^ 24) (name i) (omega arith) refl) (omega arith)).0 (small x_sizes x_sight (Const (pos 5)) (pos 5) 5 keeps (const (pos 5)) (omega arith)).0,
+          test_is x_sight (test (At (record { array = x; at = One (Var i) })) Same (Const (pos 5))) (pos 5) (pos 5) (small x_sizes x_sight (At (record { array = x; at = One (Var i) })) (pos 5) (2 ^ 24) keeps (one x (Var i) (pos 1) (pos 5) (2 ^ 24) (name i) (omega arith) refl) (omega arith)).0 (small x_sizes x_sight (Const (pos 5)) (pos 5) 5 keeps (const (pos 5)) (omega arith)).0,
           tt,
         ),
       ),
