@@ -185,6 +185,7 @@ module _ (i : Input) (c : Copying) (sound : IsSoundCopy i c) where
       performed_copy x e =
           let hw : (y.step).how ≡ Write = ap (λ (t : Step). t.how) k.step_is in
           ap (λ (a : How). written s (y.step).target (updated a (s (y.step).target) (worth (y.step).value s))) hw ∙ ap (λ (g : Ground). written s (y.step).target (worth g s)) e
+
       own : (y.step).target ≡ cell → (y.step).value ≡ load source
       own q =
           elim (in_append l.item done (y ∷ []) l.is_in) [
@@ -282,15 +283,15 @@ module _ (i : Input) (c : Copying) (sound : IsSoundCopy i c) where
             target = ap (λ (at : List ℤ). let y : Spot = record { array = c.copy; at = less_by at (base_at i c outer) } in y) (sym w.1);
             value = ap load (source_is w.0 w.1);
             later = λ u b ku p t. (
-              let o : ku.outer ≡ outer =
-              same_outer c.front c.at sound.inner sound.behind w.0 ku.cell ku.outer k.levels (deep k.levels k.is_point) ku.long
-              (subst₂ (λ (p q : List ℤ). IsBefore p q) (copy_place z kz) (copy_place u ku) p)
-              (subst₂ (λ (p q : List ℤ). IsBefore p q) (copy_place u ku) (read_place y k) (parts.2 u y b (inl refl))) in
-              let f : less_by (three ku.cell) (base_at i c outer) ≡ less_by (three w.0) (base_at i c outer) =
-              ap (λ (us : List ℤ). less_by (three ku.cell) (base_at i c us)) (sym o) ∙ sym (ap (λ (v : Step). (v.target).at) ku.step_is) ∙ ap (λ (v : Spot). v.at) t ∙ ap (λ (at : List ℤ). less_by at (base_at i c outer)) w.1 in
-              let g : three ku.cell ≡ three w.0 =
-              less-one (three ku.cell) (three w.0) (base_at i c outer) (three-length ku.cell ∙ sym (three-length w.0)) (three-length ku.cell ∙ sym (three-length (map (λ (f : Aff). value (i.params ++ outer) f) c.base))) f in
-              ap (λ (v : Step). v.value) ku.step_is ∙ ap (λ (at : List ℤ). let h : Ground = load (record { array = c.array; at = at }) in h) g ∙ ap load (source_is w.0 w.1));
+                let o : ku.outer ≡ outer =
+                same_outer c.front c.at sound.inner sound.behind w.0 ku.cell ku.outer k.levels (deep k.levels k.is_point) ku.long
+                (subst₂ (λ (p q : List ℤ). IsBefore p q) (copy_place z kz) (copy_place u ku) p)
+                (subst₂ (λ (p q : List ℤ). IsBefore p q) (copy_place u ku) (read_place y k) (parts.2 u y b (inl refl))) in
+                let f : less_by (three ku.cell) (base_at i c outer) ≡ less_by (three w.0) (base_at i c outer) =
+                ap (λ (us : List ℤ). less_by (three ku.cell) (base_at i c us)) (sym o) ∙ sym (ap (λ (v : Step). (v.target).at) ku.step_is) ∙ ap (λ (v : Spot). v.at) t ∙ ap (λ (at : List ℤ). less_by at (base_at i c outer)) w.1 in
+                let g : three ku.cell ≡ three w.0 =
+                less-one (three ku.cell) (three w.0) (base_at i c outer) (three-length ku.cell ∙ sym (three-length w.0)) (three-length ku.cell ∙ sym (three-length (map (λ (f : Aff). value (i.params ++ outer) f) c.base))) f in
+                ap (λ (v : Step). v.value) ku.step_is ∙ ap (λ (at : List ℤ). let h : Ground = load (record { array = c.array; at = at }) in h) g ∙ ap load (source_is w.0 w.1));
           }
         where
           source_is : (cell : List ℤ) → x.at ≡ three cell → record { array = c.array; at = three cell } ≡ x
@@ -409,9 +410,9 @@ module _ (i : Input) (c : Copying) (sound : IsSoundCopy i c) where
       is_moved : IsMoved Goes xs (plain ys l.each)
       is_moved = record {
         each = λ z a. (
-          let n = (in_plain ys l.each z a).0 in
-          let x : Item Step = item_at act i n.nest n.levels in
-          (x, o.all x (record { nest = n.nest; is_in = n.is_in; levels = n.levels; is_point = n.is_point; is = refl }), record { nest = n.nest; is_in = n.is_in; levels = n.levels; is_point = n.is_point; old_place = refl; old_step = refl; place_is = n.place_is; step_is = n.step_is }));
+            let n = (in_plain ys l.each z a).0 in
+            let x : Item Step = item_at act i n.nest n.levels in
+            (x, o.all x (record { nest = n.nest; is_in = n.is_in; levels = n.levels; is_point = n.is_point; is = refl }), record { nest = n.nest; is_in = n.is_in; levels = n.levels; is_point = n.is_point; old_place = refl; old_step = refl; place_is = n.place_is; step_is = n.step_is }));
         all = λ x a. goes_to x (o.each x a);
         one_new = λ x z w a b d g h. same_new x z w g h;
         one_old = λ x w z a b d g h. same_old x w z g h;
@@ -422,8 +423,7 @@ module _ (i : Input) (c : Copying) (sound : IsSoundCopy i c) where
               let y = item_for m.nest m.levels m.is_in m.is_point in
               let f = plain_in ys l.each y.0 y.1 (not_copy y.0 m.nest m.levels y.2) in
               let z : Item Step = record { place = place (moved c.front c.at (m.nest).positions) m.levels; step = act m.nest (point i m.nest m.levels) } in
-              let e : f.0 ≡ z = new_one f.0 z (in_plain ys l.each f.0 f.1).0 (record { nest = m.nest; is_in = m.is_in; levels = m.levels; is_point = m.is_point; place_is = refl; step_is = refl }) (f.2 ∙ y.2) in
-              (
+              let e : f.0 ≡ z = new_one f.0 z (in_plain ys l.each f.0 f.1).0 (record { nest = m.nest; is_in = m.is_in; levels = m.levels; is_point = m.is_point; place_is = refl; step_is = refl }) (f.2 ∙ y.2) in (
                 z,
                 subst (λ (w : Item Step). IsIn w (plain ys l.each)) e f.1,
                 record {

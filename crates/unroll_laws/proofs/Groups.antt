@@ -136,9 +136,11 @@ value_free params ls bs ts x d f v w e h k none = ap (λ (z : ℤ). z +ℤ f.con
   where
     shape : (z : ℤ) → params ++ ((ls ++ z ∷ bs) ++ ts) ≡ (params ++ ls) ++ z ∷ (bs ++ ts)
     shape z = ap (λ (l : List ℤ). params ++ l) (append_assoc ls (z ∷ bs) ts) ∙ sym (append_assoc params ls (z ∷ (bs ++ ts)))
+
     end : (z : ℤ) (j n : ℕ) → length (params ++ (ls ++ z ∷ bs)) ≡ d → j ≡ d + n → coef j (params ++ ((ls ++ z ∷ bs) ++ ts)) ≡ coef n ts
     end z j n l i =
         ap (coef j) (sym (append_assoc params (ls ++ z ∷ bs) ts)) ∙ ap (λ (m : ℕ). coef m ((params ++ (ls ++ z ∷ bs)) ++ ts)) (i ∙ ap (λ (m : ℕ). m + n) (sym l)) ∙ coef-behind (params ++ (ls ++ z ∷ bs)) ts n
+
     same : (j : ℕ) → (j < x) ⊎ ((n : ℕ) × (j ≡ d + n)) → coef j (params ++ ((ls ++ v ∷ bs) ++ ts)) ≡ coef j (params ++ ((ls ++ w ∷ bs) ++ ts))
     same j (inl l) =
         let b : j < length (params ++ ls) = omega arith in

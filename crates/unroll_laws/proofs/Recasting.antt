@@ -32,6 +32,7 @@ held-found i width terms q f h _ (inside k j t g a at b n) = of_argument k (held
     one_at k u t [] a b = absurd a
     one_at zero u t (s ∷ ts) a b = a ∙ sym b
     one_at (suc k) u t (s ∷ ts) a b = one_at k u t ts a b
+
     of_argument : (k : ℕ) → IsFound i width terms q k → IsAt k t terms → IsFound i width terms q j
     of_argument _ (found k u v is e args) at = args g j (subst (λ (x : Term). IsIn g x.at) (one_at k t u terms at is) b) n
 

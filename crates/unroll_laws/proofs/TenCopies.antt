@@ -138,6 +138,7 @@ bounded = record {
     upper u (inr h) = absurd h
     upper u (inl e) = subst (λ (w : UpperRow). (r : KernelRow) × IsIn r ten_copies.rows × IsRowOf r (upper_form w (variable 0))) (sym e)
         (record { row = record { form = upper_form (record { less_one = 0; bound = record { coefs = []; constant = pos 9 } }) (variable 0); equal = false }; own = 1 }, inr (inl refl), (refl, like_itself (upper_form (record { less_one = 0; bound = record { coefs = []; constant = pos 9 } }) (variable 0))))
+
     none : (u : UpperRow) → IsIn u to_nine → (j : ℕ) → Names u.bound j → ⊥
     none u (inr h) j n = h
     none u (inl e) j n = n (ap (λ (w : UpperRow). coef j (w.bound).coefs) e)

@@ -161,6 +161,7 @@ module _ (i : Input) (before factor : ℕ) (low : Aff) (us : List UpperRow) (mar
       where
         same : length g.new_us ≡ length us
         same = pairs-length (SaysUpper olds) us g.new_us g.says_us
+
         count : (p : Part) → IsPartOf p us → IsPartOf p g.new_us
         count full h = tt
         count (rest k) h = subst (λ (n : ℕ). k < n) (sym same) h
@@ -183,9 +184,9 @@ module _ (i : Input) (before factor : ℕ) (low : Aff) (us : List UpperRow) (mar
         elim (in_append f (place_forms part factor (place_in part copy x)) (last_forms part g.new_us last ++ own_forms part g.new_us itself) a) [
           | inl c ↦ within_place part place_at h.from h.to f c
           | inr c ↦ elim (in_append f (last_forms part g.new_us last) (own_forms part g.new_us itself) c) [
-              | inl d ↦ part-rows at part g.new_us last (subst₂ (λ (z : ℤ) (l : List Upper). IsOf part z l) (sym last_is) (sym uppers_are) h.is_of) f d
-              | inr d ↦ rows_own part h.own f d
-            ]
+            | inl d ↦ part-rows at part g.new_us last (subst₂ (λ (z : ℤ) (l : List Upper). IsOf part z l) (sym last_is) (sym uppers_are) h.is_of) f d
+            | inr d ↦ rows_own part h.own f d
+          ]
         ]
 
     -- so the value is between the bounds
@@ -492,11 +493,11 @@ module _ (i : Input) (before factor : ℕ) (low : Aff) (us : List UpperRow) (mar
       let f = same_move a.part b.part a.copy b.copy a.s b.s o.0 o.2 in (
         a.is_move ∙ f.0 ∙ sym b.is_move,
         a.new_is
-          ∙ ap (λ (l : List ℤ). l ++ a.q ∷ inner a.part a.s a.bs) c.0
-          ∙ ap (λ (y : ℤ). b.ls ++ y ∷ inner a.part a.s a.bs) o.1
-          ∙ ap (λ (l : List ℤ). b.ls ++ b.q ∷ inner a.part a.s l) c.2
-          ∙ ap (λ (l : List ℤ). b.ls ++ b.q ∷ l) (f.1 b.bs)
-          ∙ sym b.new_is,
+            ∙ ap (λ (l : List ℤ). l ++ a.q ∷ inner a.part a.s a.bs) c.0
+            ∙ ap (λ (y : ℤ). b.ls ++ y ∷ inner a.part a.s a.bs) o.1
+            ∙ ap (λ (l : List ℤ). b.ls ++ b.q ∷ inner a.part a.s l) c.2
+            ∙ ap (λ (l : List ℤ). b.ls ++ b.q ∷ l) (f.1 b.bs)
+            ∙ sym b.new_is,
       )
 
   abbrev Found : List ℤ → Type 0
@@ -511,7 +512,7 @@ module _ (i : Input) (before factor : ℕ) (low : Aff) (us : List UpperRow) (mar
         ls ++ q ∷ bs,
         inl (c, l, refl),
         give i before factor low us marked full c (copies c) l (bounded_for (copies c) e) (u.copy c l) ls w bs q (pos c) (subst (λ (k : Nest). IsPointOf i k (ls ++ w ∷ bs)) (sym e) p) front
-          (subst (λ (k : Nest). IsUnrolled (value (point i k (ls ++ w ∷ bs)) low) factor (uppers_at (point i k (ls ++ w ∷ bs)) us) full q (pos c) w) (sym e) h),
+            (subst (λ (k : Nest). IsUnrolled (value (point i k (ls ++ w ∷ bs)) low) factor (uppers_at (point i k (ls ++ w ∷ bs)) us) full q (pos c) w) (sym e) h),
       )
 
   in_rest : (k : ℕ) (ls : List ℤ) (w : ℤ) (bs : List ℤ) (q s : ℤ) → IsPointOf i n (ls ++ w ∷ bs) → length ls ≡ before → IsThere (ls ++ w ∷ bs) (rest k) q s w → Found (ls ++ w ∷ bs)
@@ -522,7 +523,7 @@ module _ (i : Input) (before factor : ℕ) (low : Aff) (us : List UpperRow) (mar
         ls ++ q ∷ s ∷ bs,
         inr (k, l, refl),
         give i before factor low us marked (rest k) 0 (rests k) some (bounded_for (rests k) e) (u.rest_is k l) ls w bs q s (subst (λ (k : Nest). IsPointOf i k (ls ++ w ∷ bs)) (sym e) p) front
-          (subst (λ (y : Nest). IsUnrolled (value (point i y (ls ++ w ∷ bs)) low) factor (uppers_at (point i y (ls ++ w ∷ bs)) us) (rest k) q s w) (sym e) h),
+            (subst (λ (y : Nest). IsUnrolled (value (point i y (ls ++ w ∷ bs)) low) factor (uppers_at (point i y (ls ++ w ∷ bs)) us) (rest k) q s w) (sym e) h),
       )
 
   in_part : (part : Part) (ls : List ℤ) (w : ℤ) (bs : List ℤ) (q s : ℤ) → IsPointOf i n (ls ++ w ∷ bs) → length ls ≡ before → IsThere (ls ++ w ∷ bs) part q s w → Found (ls ++ w ∷ bs)
