@@ -1,0 +1,9 @@
+pub mod Wrapped
+pub mod Printing
+pub mod Bounds
+pub mod Groups
+pub mod Scanned
+pub mod Fronts
+pub mod CopyLoop
+pub mod WorkedScan
+pub mod WorkedParts

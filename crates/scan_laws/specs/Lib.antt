@@ -1,0 +1,5 @@
+pub mod Printing
+pub mod Bounds
+pub mod Rows
+pub mod Laws
+pub mod Examples

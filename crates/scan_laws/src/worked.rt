@@ -1,0 +1,27 @@
+// Worked cases of the laws of runs and scans: something meets each of their premises.
+ghost use Rattle.scan_laws.specs.Examples.{WorkedExecutor, WorkedPrinting, WorkedScan, WorkedBounds, WorkedSize};
+
+/// A loop that copies two cells has no fault and performs the two copies.
+pub fn worked_executor()
+    ensures { WorkedExecutor }
+{}
+
+/// A loop that copies an array is printed for its kernel.
+pub fn worked_printing()
+    ensures { WorkedPrinting }
+{}
+
+/// Loops that scan the kernel of that loop.
+pub fn worked_scan()
+    ensures { WorkedScan }
+{}
+
+/// A row with a read bounds a loop in a row of a matrix.
+pub fn worked_bounds()
+    ensures { WorkedBounds }
+{}
+
+/// An expression with a read is small.
+pub fn worked_size()
+    ensures { WorkedSize }
+{}

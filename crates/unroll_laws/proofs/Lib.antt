@@ -1,0 +1,4 @@
+pub mod Recasting
+pub mod Groups
+pub mod Unrolled
+pub mod TenCopies

@@ -1,0 +1,4 @@
+pub mod Recasting
+pub mod Grouping
+pub mod Laws
+pub mod Examples
