@@ -5,7 +5,7 @@ use Rattle.sparse_marks.specs.Kept.{same, is_among, Placed, kept, kept_before, s
 use Rattle.sparse_marks.specs.Marks.{Marks, unmarked, found, marked, see, close, Follows}
 use Rattle.sparse_marks.proofs.Values.{same_is, one, kept_here, kept_elsewhere, kept_before_here, found_none, found_some, found_new, found_old}
 
--- before the first met and row
+-- before the first entry and row
 
 starts_none : (h : ℕ) → 0 ≡ start h []
 starts_none zero = refl

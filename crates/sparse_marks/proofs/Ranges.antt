@@ -37,7 +37,7 @@ greatest_row (negsuc k) r n h =
     let z : 0 * (n - 1) ≡ 0 = zero-mul (n - 1) in
     subst (λ x. neg_ℤ (pos (suc k * r)) ≤ℤ pos x) (sym z) (grind (arith, ints))
 
--- the value of an met lies between the least and the greatest value of the form
+-- the value of an entry lies between the least and the greatest value of the form
 pub value_inside : (c s0 : ℤ) (t r n col m : ℕ) → 0 < t → r < n → col < m
     → let w : ℤ = int_div_euclid ((pos col +ℤ (c *ℤ pos r)) +ℤ s0) (pos t) in
     let lo : ℤ = int_div_euclid (s0 +ℤ (int_min (pos 0) c *ℤ pos (n - 1))) (pos t) in

@@ -9,7 +9,7 @@ use Rattle.sparse_marks.specs.Marks.{Marks, unmarked, marked, see, close, Follow
 use Rattle.sparse_marks.specs.Walks.{Walk, met, row_met, met_before, seeing, marks_in, marks_of, Rising, sum_below}
 use Rattle.sparse_marks.proofs.Marking.{begins, sees, closes, goes_on}
 
--- behind j met_before of a row
+-- behind j entries of a row
 pub row_follows : (a : Walk) (i j : ℕ) → Follows (met_before a i) (a.group i) (marks_of a i) → Follows (met_before a i ++ row_met a i j) (a.group i) (marks_in a i j)
 row_follows a i zero f = subst (λ l. Follows l (a.group i) (marks_of a i)) (sym (append-nil (met_before a i))) f
 row_follows a i (suc j) f =
@@ -24,12 +24,12 @@ turns_to : (es : List Placed) (g h : ℕ) (s : Marks) → (h ≡ g) ⊎ (h ≡ s
 turns_to es g h s (inl e) f = subst (λ h. Follows es h (close g s)) (sym e) f
 turns_to es g h s (inr e) f = subst (λ h. Follows es h (close g s)) (sym e) (goes_on es g (close g s) f (closed_ptr g s))
 
--- before row i
+-- the marks before row i
 pub between : (a : Walk) → Rising a.group → (i : ℕ) → Follows (met_before a i) (a.group i) (marks_of a i)
 between a r zero = subst (λ g. Follows [] g unmarked) (sym r.begin) begins
 between a r (suc i) = turns_to (met_before a (suc i)) (a.group i) (a.group (suc i)) (marks_in a i (a.count i)) (r.next i) (closes _ (a.group i) _ (row_follows a i (a.count i) (between a r i)))
 
--- in row i behind j of its met_before
+-- in row i behind j of its entries
 pub within : (a : Walk) → Rising a.group → (i j : ℕ) → Follows (met_before a i ++ row_met a i j) (a.group i) (marks_in a i j)
 within a r i j = row_follows a i j (between a r i)
 
@@ -37,7 +37,7 @@ within a r i j = row_follows a i j (between a r i)
 pub at_end : (a : Walk) → Rising a.group → (i : ℕ) → Follows (met_before a (suc i)) (suc (a.group i)) (marks_of a (suc i))
 at_end a r i = turns_to (met_before a (suc i)) (a.group i) (suc (a.group i)) (marks_in a i (a.count i)) (inr refl) (closes _ (a.group i) _ (row_follows a i (a.count i) (between a r i)))
 
--- what a turn needs: the mark and the start of the group are at most the number of values, and that at most the number of met_before
+-- what a turn needs: the mark and the start of the group are at most the number of values, and that at most the number of entries
 pub start_bound : (es : List Placed) (g : ℕ) (s : Marks) → Follows es g s → s.ptr g ≤ length s.val
 start_bound es g s f =
     let p : s.ptr g ≡ start g es = f.ptr g (omega arith) in
@@ -67,7 +67,7 @@ sum_rises f i (suc n) h = by _ refl (sum_rises f i n)
     by true e k = let q : sum_below f i + f i ≤ sum_below f n = k (grind (arith, e)) in omega (arith, q)
     by false e k = let q : n ≡ i = grind (arith, e, h) in subst (λ i. sum_below f i + f i ≤ sum_below f n + f n) q (omega arith)
 
--- there are at most as many values as met_before
+-- there are at most as many values as entries
 pub values_bound : (a : Walk) (n i j : ℕ) → i < n → j ≤ a.count i → length (marks_in a i j).val ≤ sum_below a.count n
 values_bound a n i j h k =
     let p : length (marks_in a i j).val ≤ length (marks_of a i).val + j = seeing_bound (a.group i) (a.value i) (marks_of a i) j in
