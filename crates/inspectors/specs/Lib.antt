@@ -1,0 +1,6 @@
+pub mod Numbers
+pub mod Trees
+pub mod Expressions
+pub mod Layouts
+pub mod Marks
+pub mod Rows
