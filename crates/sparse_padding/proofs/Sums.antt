@@ -1,13 +1,13 @@
 -- A run of neighbours is one assignment with the sum as its factor, and an assignment with the factor 0 is none.
-use Rattle.std.proofs.Common.{◌≡◌, ◌⊎◌, inl, inr, refl, sym, ap, ◌∙◌, subst, ℕ, zero, suc, ◌+◌, ◌-◌, ◌*◌, ◌%◌, ◌^◌, ◌<◌, ◌≤◌, Bool, true, false, ◌||◌, ◌&&◌, List, [], ◌∷◌, ◌++◌, length, arith, nat_lt, if◌then◌else◌}
+use Rattle.std.proofs.Common.{◌≡◌, ◌⊎◌, inl, inr, refl, sym, ap, ◌∙◌, subst, ℕ, ◌+◌, ◌-◌, ◌*◌, ◌^◌, ◌<◌, ◌≤◌, Bool, true, false, ◌||◌, List, [], ◌∷◌, ◌++◌, length, arith, nat_lt, if◌then◌else◌}
 use Rattle.std.proofs.Math.Nat.{mod-add-mod, mod-lt, mod-eq_of_lt, mul-one, mul_comm, mul_assoc, add-mul, add-mod, add-mod_right, zero-mul}
 use Rattle.std.proofs.lemmas.Nat.{mul-mod_second}
 use Rattle.std.specs.List.{list_all}
 use Rattle.c_tree.specs.declared.statement.How.{How}
 use Rattle.c_tree.specs.declared.statement.How.TheVariants.{Write, Add, Subtract}
 use Rattle.c_meaning.specs.Memory.{Spot, same_spot, Cells}
-use Rattle.c_meaning.specs.Ground.{Ground, number, load, sum, difference, product, wrapped, worth, Step, updated, written, perform, effect, reads, is_among, is_compound}
-use Rattle.c_meaning.proofs.Spots.{pointwise_equal, unread_cell, worth_unread, cell_written, or_left, or_right, spot_self, spot_is}
+use Rattle.c_meaning.specs.Ground.{Ground, load, wrapped, worth, Step, updated, written, perform, effect, reads, is_among, is_compound}
+use Rattle.c_meaning.proofs.Spots.{pointwise_equal, unread_cell, worth_unread, cell_written, or_left, or_right, spot_is}
 use Rattle.c_meaning.proofs.Fitting.{and_left, and_right}
 use Rattle.sparse_padding.specs.Products.{Frame, hole, left, right, filled, others, frame_reads, with_factor, with_each, sum_of}
 use Rattle.sparse_padding.specs.Positions.{Position, by_entry, padded, IsHarmless, AreHarmless, HoldSums, AreNumbers}
@@ -16,9 +16,9 @@ use Rattle.sparse_padding.specs.Laws.{RunIsOneAssignment, OneEntryIsOneAssignmen
 write_over : (s : Cells) (x : Spot) (v w : ℕ) → written (written s x v) x w ≡ written s x w
 write_over s x v w = pointwise_equal _ _ (λ z. over (same_spot x z) (s z))
   where
-  over : (b : Bool) (n : ℕ) → (if b then w else (if b then v else n)) ≡ (if b then w else n)
-  over true n = refl
-  over false n = refl
+    over : (b : Bool) (n : ℕ) → (if b then w else (if b then v else n)) ≡ (if b then w else n)
+    over true n = refl
+    over false n = refl
 
 wrapped-add : (m n : ℕ) → wrapped (wrapped m + n) ≡ wrapped (m + n)
 wrapped-add m n = mod-add-mod m (2 ^ 64) n
@@ -45,10 +45,10 @@ pub filled_is : (k : Frame) (e : Ground) (s : Cells) → wrapped (worth (filled 
 filled_is hole e s = ap wrapped (sym (mul-one (worth e s)))
 filled_is (left k b) e s =
     wrapped-again (worth (filled k e) s * worth b s) ∙ sym (wrapped-mul-left (worth (filled k e) s) (worth b s)) ∙ ap (λ n. wrapped (n * worth b s)) (filled_is k e s)
-        ∙ wrapped-mul-left (worth e s * others k s) (worth b s) ∙ ap wrapped (mul_assoc (worth e s) (others k s) (worth b s))
+    ∙ wrapped-mul-left (worth e s * others k s) (worth b s) ∙ ap wrapped (mul_assoc (worth e s) (others k s) (worth b s))
 filled_is (right a k) e s =
     wrapped-again (worth a s * worth (filled k e) s) ∙ sym (wrapped-mul-right (worth a s) (worth (filled k e) s)) ∙ ap (λ n. wrapped (worth a s * n)) (filled_is k e s)
-        ∙ wrapped-mul-right (worth a s) (worth e s * others k s) ∙ ap wrapped (sym (mul_assoc (worth a s) (worth e s) (others k s)) ∙ ap (λ n. n * others k s) (mul_comm (worth a s) (worth e s)) ∙ mul_assoc (worth e s) (worth a s) (others k s))
+    ∙ wrapped-mul-right (worth a s) (worth e s * others k s) ∙ ap wrapped (sym (mul_assoc (worth a s) (worth e s) (others k s)) ∙ ap (λ n. n * others k s) (mul_comm (worth a s) (worth e s)) ∙ mul_assoc (worth e s) (worth a s) (others k s))
 
 -- what a compound form adds
 abbrev gain : How → ℕ → ℕ
@@ -82,7 +82,7 @@ once_more Write v p q h = cc
 once_more Add v p q h = wrapped-add (v + p) q ∙ ap wrapped (let e : (v + p) + q ≡ v + (p + q) = omega arith in e)
 once_more Subtract v p q h =
     wrapped-add (v + (2 ^ 64 - wrapped p)) (2 ^ 64 - wrapped q)
-        ∙ less_by v (wrapped p) (wrapped q) (wrapped (p + q)) _ (low p) (low q) refl (add-mod p q (2 ^ 64) ∙ carry_by (wrapped p) (wrapped q) _ (low p) (low q) refl)
+    ∙ less_by v (wrapped p) (wrapped q) (wrapped (p + q)) _ (low p) (low q) refl (add-mod p q (2 ^ 64) ∙ carry_by (wrapped p) (wrapped q) _ (low p) (low q) refl)
 
 -- an update by a product
 gained : (f : How) (v p q : ℕ) → is_compound f ≡ true → p < 2 ^ 64 → wrapped p ≡ wrapped q → updated f v p ≡ wrapped (v + gain f q)
@@ -116,18 +116,18 @@ no_gain Subtract v n h b = ap (λ m. wrapped (v + (2 ^ 64 - wrapped m))) (zero-m
 same_write : (s : Cells) (x : Spot) → s ≡ written s x (s x)
 same_write s x = pointwise_equal _ _ (λ y. by y _ refl)
   where
-  by : (y : Spot) (b : Bool) → same_spot x y ≡ b → s y ≡ (if b then s x else s y)
-  by y true e = ap s (sym (spot_is x y e))
-  by y false e = refl
+    by : (y : Spot) (b : Bool) → same_spot x y ≡ b → s y ≡ (if b then s x else s y)
+    by y true e = ap s (sym (spot_is x y e))
+    by y false e = refl
 
 -- one assignment of the run, where the target holds v
 one_of : (x : Spot) (f : How) (k : Frame) (a : Spot) (s : Cells) (v : ℕ) → s a < 2 ^ 64 → is_compound f ≡ true → is_among x (frame_reads k) ≡ false → same_spot x a ≡ false
     → perform (with_factor x f k a) (written s x v) ≡ written s x (wrapped (v + gain f (s a * others k s)))
 one_of x f k a s v z h i j =
     ap (λ n. written (written s x v) x (updated f n (worth (filled k (load a)) (written s x v)))) (cell_written s x v)
-        ∙ write_over s x v (updated f v (worth (filled k (load a)) (written s x v)))
-        ∙ ap (written s x) (gained f v (worth (filled k (load a)) (written s x v)) (s a * others k s) h (filled_low k a (written s x v) (subst (λ n. n < 2 ^ 64) (sym (unread_cell s x a v j)) z))
-            (filled_is k (load a) (written s x v) ∙ ap (λ n. wrapped (n * others k (written s x v))) (unread_cell s x a v j) ∙ ap (λ n. wrapped (s a * n)) (frame_unread k s x v i)))
+    ∙ write_over s x v (updated f v (worth (filled k (load a)) (written s x v)))
+    ∙ ap (written s x) (gained f v (worth (filled k (load a)) (written s x v)) (s a * others k s) h (filled_low k a (written s x v) (subst (λ n. n < 2 ^ 64) (sym (unread_cell s x a v j)) z))
+    (filled_is k (load a) (written s x v) ∙ ap (λ n. wrapped (n * others k (written s x v))) (unread_cell s x a v j) ∙ ap (λ n. wrapped (s a * n)) (frame_unread k s x v i)))
 
 run_of : (x : Spot) (f : How) (k : Frame) (ys : List Spot) (s : Cells) (v : ℕ) → AreNumbers s → is_compound f ≡ true → is_among x (frame_reads k) ≡ false → is_among x ys ≡ false → v < 2 ^ 64
     → effect (with_each x f k ys) (written s x v) ≡ written s x (wrapped (v + gain f (sum_of s ys * others k s)))
@@ -136,25 +136,25 @@ run_of x f k (a ∷ ys) s v z h i j b =
     let p : ℕ = s a * others k s in
     let q : ℕ = sum_of s ys * others k s in
     ap (effect (with_each x f k ys)) (one_of x f k a s v (z.below a) h i (or_left _ _ j))
-        ∙ run_of x f k ys s (wrapped (v + gain f p)) z h i (or_right (same_spot x a) _ j) (low (v + gain f p))
-        ∙ ap (written s x) (once_more f v p q h ∙ ap (λ n. wrapped (v + gain f n)) (sym (add-mul (s a) (sum_of s ys) (others k s))))
+    ∙ run_of x f k ys s (wrapped (v + gain f p)) z h i (or_right (same_spot x a) _ j) (low (v + gain f p))
+    ∙ ap (written s x) (once_more f v p q h ∙ ap (λ n. wrapped (v + gain f n)) (sym (add-mul (s a) (sum_of s ys) (others k s))))
 
 -- a run of assignments to one cell is the one assignment whose factor is the sum; an empty run is an assignment with factor 0
 pub summed : (x b : Spot) (f : How) (k : Frame) (ys : List Spot) (s : Cells) → AreNumbers s → is_compound f ≡ true → is_among x (frame_reads k) ≡ false → is_among x ys ≡ false
     → same_spot x b ≡ false → s b ≡ wrapped (sum_of s ys) → effect (with_each x f k ys) s ≡ perform (with_factor x f k b) s
 summed x b f k ys s fits h i j e q =
     ap (effect (with_each x f k ys)) (same_write s x)
-        ∙ run_of x f k ys s (s x) fits h i j (fits.below x)
-        ∙ ap (written s x) (same_gain f (s x) _ _ h (sym (ap (λ n. wrapped (n * others k s)) q ∙ wrapped-mul-left (sum_of s ys) (others k s))))
-        ∙ sym (ap (perform (with_factor x f k b)) (same_write s x) ∙ one_of x f k b s (s x) (fits.below b) h i e)
+    ∙ run_of x f k ys s (s x) fits h i j (fits.below x)
+    ∙ ap (written s x) (same_gain f (s x) _ _ h (sym (ap (λ n. wrapped (n * others k s)) q ∙ wrapped-mul-left (sum_of s ys) (others k s))))
+    ∙ sym (ap (perform (with_factor x f k b)) (same_write s x) ∙ one_of x f k b s (s x) (fits.below b) h i e)
 
 -- cells of the matrix and the layout differ from a target
 apart_from : (matrix : Spot → Bool) (x y : Spot) → matrix x ≡ false → matrix y ≡ true → same_spot x y ≡ false
 apart_from matrix x y h k = by _ refl
   where
-  by : (b : Bool) → same_spot x y ≡ b → same_spot x y ≡ false
-  by true e = absurd (let q : matrix x ≡ true = ap matrix (spot_is x y e) ∙ k in grind (arith, q, h))
-  by false e = e
+    by : (b : Bool) → same_spot x y ≡ b → same_spot x y ≡ false
+    by true e = absurd (let q : matrix x ≡ true = ap matrix (spot_is x y e) ∙ k in grind (arith, q, h))
+    by false e = e
 
 none_among : (matrix : Spot → Bool) (x : Spot) (ys : List Spot) → matrix x ≡ false → list_all matrix ys ≡ true → is_among x ys ≡ false
 none_among matrix x [] h k = refl
@@ -170,9 +170,10 @@ sum_kept matrix s x v (y ∷ ys) h k =
 
 summed_kept : (matrix : Spot → Bool) (s : Cells) (x : Spot) (v : ℕ) (ps : List Position) → matrix x ≡ false → AreHarmless matrix ps → HoldSums s ps → HoldSums (written s x v) ps
 summed_kept matrix s x v [] h k e = tt
-summed_kept matrix s x v (p ∷ ps) h k e =
-    ( unread_cell s x p.cell v (apart_from matrix x p.cell h (k.0).cell_in) ∙ e.0 ∙ ap wrapped (sym (sum_kept matrix s x v p.entries h (k.0).entries_in))
-    , summed_kept matrix s x v ps h (k.1) (e.1))
+summed_kept matrix s x v (p ∷ ps) h k e = (
+  unread_cell s x p.cell v (apart_from matrix x p.cell h (k.0).cell_in) ∙ e.0 ∙ ap wrapped (sym (sum_kept matrix s x v p.entries h (k.0).entries_in)),
+  summed_kept matrix s x v ps h (k.1) (e.1),
+)
 
 updated_low : (f : How) (n v : ℕ) → is_compound f ≡ true → updated f n v < 2 ^ 64
 updated_low Write n v h = cc
@@ -182,9 +183,9 @@ updated_low Subtract n v h = low (n + (2 ^ 64 - v))
 fits_written : (s : Cells) (x : Spot) (v : ℕ) → AreNumbers s → v < 2 ^ 64 → AreNumbers (written s x v)
 fits_written s x v f h = record { below = λ y. by y (same_spot x y) }
   where
-  by : (y : Spot) (b : Bool) → (if b then v else s y) < 2 ^ 64
-  by y true = h
-  by y false = f.below y
+    by : (y : Spot) (b : Bool) → (if b then v else s y) < 2 ^ 64
+    by y true = h
+    by y false = f.below y
 
 -- one entry or none: then the product may read its target
 at_once : (x : Spot) (f : How) (k : Frame) (a : Spot) (s : Cells) → s a < 2 ^ 64 → is_compound f ≡ true → perform (with_factor x f k a) s ≡ written s x (wrapped (s x + gain f (s a * others k s)))
@@ -195,8 +196,8 @@ summed_few x b f k [] s fits h l q =
     same_write s x ∙ ap (written s x) (sym (no_gain f (s x) (others k s) h (fits.below x)) ∙ same_gain f (s x) _ _ h (ap (λ n. wrapped (n * others k s)) (sym q))) ∙ sym (at_once x f k b s (fits.below b) h)
 summed_few x b f k (a ∷ []) s fits h l q =
     at_once x f k a s (fits.below a) h
-        ∙ ap (written s x) (same_gain f (s x) _ _ h (ap (λ n. wrapped (n * others k s)) (let e : s a ≡ s a + 0 = omega arith in e) ∙ sym (wrapped-mul-left (s a + 0) (others k s)) ∙ ap (λ n. wrapped (n * others k s)) (sym q)))
-        ∙ sym (at_once x f k b s (fits.below b) h)
+    ∙ ap (written s x) (same_gain f (s x) _ _ h (ap (λ n. wrapped (n * others k s)) (let e : s a ≡ s a + 0 = omega arith in e) ∙ sym (wrapped-mul-left (s a + 0) (others k s)) ∙ ap (λ n. wrapped (n * others k s)) (sym q)))
+    ∙ sym (at_once x f k b s (fits.below b) h)
 summed_few x b f k (a ∷ a' ∷ ys) s fits h l q = absurd (omega (arith, l))
 
 summed_either : (matrix : Spot → Bool) (p : Position) (s : Cells) → IsHarmless matrix p → AreNumbers s → s p.cell ≡ wrapped (sum_of s p.entries) → (is_among p.target (frame_reads p.product) ≡ false) ⊎ (length p.entries ≤ 1)
@@ -210,10 +211,10 @@ padded_effect matrix [] s k e f = refl
 padded_effect matrix (p ∷ ps) s k e f =
     let h : IsHarmless matrix p = k.0 in
     effect-append (with_each p.target p.how p.product p.entries) (by_entry ps) s
-        ∙ ap (effect (by_entry ps)) (summed_either matrix p s h f (e.0) h.unread)
-        ∙ padded_effect matrix ps (perform (with_factor p.target p.how p.product p.cell) s) (k.1)
-            (summed_kept matrix s p.target _ ps h.outside (k.1) (e.1))
-            (fits_written s p.target _ f (updated_low p.how _ _ h.compound))
+    ∙ ap (effect (by_entry ps)) (summed_either matrix p s h f (e.0) h.unread)
+    ∙ padded_effect matrix ps (perform (with_factor p.target p.how p.product p.cell) s) (k.1)
+    (summed_kept matrix s p.target _ ps h.outside (k.1) (e.1))
+    (fits_written s p.target _ f (updated_low p.how _ _ h.compound))
 
 pub run_is_one : RunIsOneAssignment
 run_is_one x y how k ys s f c u v e q = summed x y how k ys s f c u v e q

@@ -1,5 +1,5 @@
 -- Laws of padded lists.
-use Rattle.std.specs.Prelude.{◌≡◌, ℕ, ◌≤◌, Bool, true, false, List, length}
+use Rattle.std.specs.Prelude.{◌≡◌, ◌≤◌, Bool, true, false, List, length}
 use Rattle.c_tree.specs.declared.statement.How.{How}
 use Rattle.c_meaning.specs.Memory.{Spot, same_spot, Cells}
 use Rattle.c_meaning.specs.Ground.{wrapped, perform, effect, is_among, is_compound}

@@ -1,5 +1,5 @@
 -- Lists of assignments by position: one for each entry that falls on a position, and one for each position.
-use Rattle.std.specs.Prelude.{◌≡◌, ◌⊎◌, ℕ, ◌≤◌, ◌<◌, ◌^◌, Bool, true, false, List, [], ◌∷◌, ◌++◌, length}
+use Rattle.std.specs.Prelude.{◌≡◌, ◌⊎◌, ◌≤◌, ◌<◌, ◌^◌, Bool, true, false, List, [], ◌∷◌, ◌++◌, length}
 use Rattle.std.specs.List.{list_all}
 use Rattle.c_tree.specs.declared.statement.How.{How}
 use Rattle.c_meaning.specs.Memory.{Spot, Cells}
