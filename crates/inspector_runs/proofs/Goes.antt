@@ -23,11 +23,11 @@ goes_then F G m k l P Q p f =
     record { ends = r.0; turned = r.1; meets = r.2 }
 
 pub goes_given : {A : Type 0} (at : Place) (e : Memory → Answer A) (F : A → Run) (m : Memory) (k : ℕ) (Q : Memory → Type 0) (a : A) → e m ≡ Ok a → Goes (F a) m k Q → Goes (given at e F) m k Q
-goes_given at e F m k Q a h g = record
-  { ends = ap (λ x. (given_by at x F m).trouble) h ∙ g.ends
-  ; turned = ap (λ x. (given_by at x F m).turned) h ∙ g.turned
-  ; meets = subst (λ x. Q (given_by at x F m).last) (sym h) g.meets
-  }
+goes_given at e F m k Q a h g = record {
+  ends = ap (λ x. (given_by at x F m).trouble) h ∙ g.ends;
+  turned = ap (λ x. (given_by at x F m).turned) h ∙ g.turned;
+  meets = subst (λ x. Q (given_by at x F m).last) (sym h) g.meets;
+}
 
 pub goes_performs : (at : Place) (d : Deed) (m : Memory) (Q : Memory → Type 0) → Q (do_deed d m) → Goes (performs at d) m 0 Q
 goes_performs at d m Q q = record { ends = refl; turned = refl; meets = q }
@@ -46,14 +46,15 @@ turns_count : (k : ℕ) (body : ℤ → Run) (t : ℕ → ℕ) (I : ℕ → Memo
 turns_count zero body t I l f m i = goes_nothing m (I 0) i
 turns_count (suc k) body t I l f m i =
     goes_then (turn (body l)) (turns k (l +ℤ pos 1) body) m (suc (t 0)) (in_all k (λ j. t (suc j))) (I 1) (I (suc k))
-        (goes_turn (body l) m (t 0) (I 1) (subst (λ v. Goes (body v) m (t 0) (I 1)) (start l) (f 0 m (omega arith) i)))
-        (λ m' i'. turns_count k body (λ j. t (suc j)) (λ j. I (suc j)) (l +ℤ pos 1)
-            (λ j m'' b i''. subst (λ v. Goes (body v) m'' (t (suc j)) (I (suc (suc j)))) (shift l j) (f (suc j) m'' (omega (arith, b)) i'')) m' i')
+    (goes_turn (body l) m (t 0) (I 1) (subst (λ v. Goes (body v) m (t 0) (I 1)) (start l) (f 0 m (omega arith) i)))
+    (λ m' i'. turns_count k body (λ j. t (suc j)) (λ j. I (suc j)) (l +ℤ pos 1)
+    (λ j m'' b i''. subst (λ v. Goes (body v) m'' (t (suc j)) (I (suc (suc j)))) (shift l j) (f (suc j) m'' (omega (arith, b)) i'')) m' i')
   where
-  start : (l : ℤ) → l +ℤ pos 0 ≡ l
-  start l = grind (arith, ints)
-  shift : (l : ℤ) (j : ℕ) → l +ℤ pos (suc j) ≡ (l +ℤ pos 1) +ℤ pos j
-  shift l j = grind (arith, ints)
+    start : (l : ℤ) → l +ℤ pos 0 ≡ l
+    start l = grind (arith, ints)
+
+    shift : (l : ℤ) (j : ℕ) → l +ℤ pos (suc j) ≡ (l +ℤ pos 1) +ℤ pos j
+    shift l j = grind (arith, ints)
 
 turns_of : (l : ℤ) (k : ℕ) → k ≡ above_zero ((l +ℤ pos k) -ℤ l)
 turns_of l k = grind (arith, ints)

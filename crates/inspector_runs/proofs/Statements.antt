@@ -33,15 +33,15 @@ pub goes_put : (t : Cell) (e : Index) (ts : List Stmt) (c : Env) (at : Place) (n
     → Leads ts c at (n + 1) (do_deed d m) k Q → Leads (Put t e ∷ ts) c at n m k Q
 goes_put t e ts c at n m k Q d h g =
     none_first _ c at n m k Q (first_goes _ ts _ (ran-Put t e) c at n m 0 k (λ m'. m' ≡ do_deed d m) Q
-        (goes_given (child at n) (put_step t e c) (performs (child at n)) m 0 _ d h (goes_performs (child at n) d m _ refl))
-        (λ m' q. subst (λ m. Leads ts c at (n + 1) m k Q) (sym q) g))
+    (goes_given (child at n) (put_step t e c) (performs (child at n)) m 0 _ d h (goes_performs (child at n) d m _ refl))
+    (λ m' q. subst (λ m. Leads ts c at (n + 1) m k Q) (sym q) g))
 
 pub goes_grow : (a : Name) (e : Index) (ts : List Stmt) (c : Env) (at : Place) (n : ℕ) (m : Memory) (k : ℕ) (Q : Memory → Type 0) (d : Deed) → grow_step a e c m ≡ Ok d
     → Leads ts c at (n + 1) (do_deed d m) k Q → Leads (Grow a e ∷ ts) c at n m k Q
 goes_grow a e ts c at n m k Q d h g =
     none_first _ c at n m k Q (first_goes _ ts _ (ran-Grow a e) c at n m 0 k (λ m'. m' ≡ do_deed d m) Q
-        (goes_given (child at n) (grow_step a e c) (performs (child at n)) m 0 _ d h (goes_performs (child at n) d m _ refl))
-        (λ m' q. subst (λ m. Leads ts c at (n + 1) m k Q) (sym q) g))
+    (goes_given (child at n) (grow_step a e c) (performs (child at n)) m 0 _ d h (goes_performs (child at n) d m _ refl))
+    (λ m' q. subst (λ m. Leads ts c at (n + 1) m k Q) (sym q) g))
 
 -- a guard around straight statements, and what follows it
 guarded : (b : Bool) (F : Run) (m : Memory) (Q : Memory → Type 0) → (b ≡ true → Goes F m 0 Q) → (b ≡ false → Q m) → Goes (if b then F else nothing) m 0 Q
@@ -52,8 +52,8 @@ pub goes_if : (tests : List Test) (body ts : List Stmt) (c : Env) (at : Place) (
     → (b ≡ true → Leads body c at n m 0 P) → (b ≡ false → P m) → ((m' : Memory) → P m' → Leads ts c at (n + widths (map part body)) m' k Q) → Leads (If tests body ∷ ts) c at n m k Q
 goes_if tests body ts c at n m k P Q b h f g r =
     none_first _ c at n m k Q (first_goes _ ts _ (ran-If tests body) c at n m 0 k P Q
-        (goes_given (child at n) (λ m. all_hold tests (sight_of c m)) (λ b. if b then run_at body c at n else nothing) m 0 P b h (guarded b _ m P (λ e. (f e).goes) g))
-        r)
+    (goes_given (child at n) (λ m. all_hold tests (sight_of c m)) (λ b. if b then run_at body c at n else nothing) m 0 P b h (guarded b _ m P (λ e. (f e).goes) g))
+    r)
 
 -- a loop of k turns, and what follows it
 pub goes_count : (x : Name) (low high : Index) (body ts : List Stmt) (c : Env) (at : Place) (n : ℕ) (m : Memory) (z : ℕ) (Q : Memory → Type 0) (l : ℤ) (k : ℕ) (t : ℕ → ℕ) (I : ℕ → Memory → Type 0)
@@ -62,10 +62,10 @@ pub goes_count : (x : Name) (low high : Index) (body ts : List Stmt) (c : Env) (
     → ((m' : Memory) → I k m' → Leads ts c at (n + 1) m' z Q) → Leads (For x low high body ∷ ts) c at n m (in_all k t + z) Q
 goes_count x low high body ts c at n m z Q l k t I el eh i f g =
     first_goes _ ts _ (ran-For x low high body) c at n m (in_all k t) z (I k) Q
-        (goes_given (child at n) (λ m. value_of low (sight_of c m)) _ m _ _ l el
-            (goes_given (child at n) (λ m. value_of high (sight_of c m)) _ m _ _ (l +ℤ pos k) eh
-                (count_goes k (λ v. run_at body (bound x v c) (child at n ++ v ∷ []) 0) t I l (λ j m' a i'. (f j m' a i').goes) m i)))
-        g
+    (goes_given (child at n) (λ m. value_of low (sight_of c m)) _ m _ _ l el
+    (goes_given (child at n) (λ m. value_of high (sight_of c m)) _ m _ _ (l +ℤ pos k) eh
+    (count_goes k (λ v. run_at body (bound x v c) (child at n ++ v ∷ []) 0) t I l (λ j m' a i'. (f j m' a i').goes) m i)))
+    g
 
 pub weaker : (ts : List Stmt) (c : Env) (at : Place) (n : ℕ) (m : Memory) (k l : ℕ) (P Q : Memory → Type 0) → k ≡ l → ((m' : Memory) → P m' → Q m') → Leads ts c at n m k P → Leads ts c at n m l Q
 weaker ts c at n m k l P Q e f g = record { goes = record { ends = g.goes.ends; turned = g.goes.turned ∙ e; meets = f _ g.goes.meets } }
@@ -74,12 +74,12 @@ pub goes_declare : (a : Name) (kind : Kind) (inner : List Index) (ts : List Stmt
     → Leads ts c at (n + 1) (do_deed d m) k Q → Leads (Declare a kind inner ∷ ts) c at n m k Q
 goes_declare a kind inner ts c at n m k Q d h g =
     none_first _ c at n m k Q (first_goes _ ts _ (ran-Declare a kind inner) c at n m 0 k (λ m'. m' ≡ do_deed d m) Q
-        (goes_given (child at n) (declare_step a kind inner c) (performs (child at n)) m 0 _ d h (goes_performs (child at n) d m _ refl))
-        (λ m' q. subst (λ m. Leads ts c at (n + 1) m k Q) (sym q) g))
+    (goes_given (child at n) (declare_step a kind inner c) (performs (child at n)) m 0 _ d h (goes_performs (child at n) d m _ refl))
+    (λ m' q. subst (λ m. Leads ts c at (n + 1) m k Q) (sym q) g))
 
 pub goes_assign : (t : Cell) (how : How) (e : Expr) (ts : List Stmt) (c : Env) (at : Place) (n : ℕ) (m : Memory) (k : ℕ) (Q : Memory → Type 0) (d : Step) → assigned t how e (scene_of c m) ≡ Ok d
     → Leads ts c at (n + 1) (do_deed (assign d) m) k Q → Leads (Assign t how e ∷ ts) c at n m k Q
 goes_assign t how e ts c at n m k Q d h g =
     none_first _ c at n m k Q (first_goes _ ts _ (ran-Assign t how e) c at n m 0 k (λ m'. m' ≡ do_deed (assign d) m) Q
-        (goes_given (child at n) (λ m. assigned t how e (scene_of c m)) (λ t. performs (child at n) (assign t)) m 0 _ d h (goes_performs (child at n) (assign d) m _ refl))
-        (λ m' q. subst (λ m. Leads ts c at (n + 1) m k Q) (sym q) g))
+    (goes_given (child at n) (λ m. assigned t how e (scene_of c m)) (λ t. performs (child at n) (assign t)) m 0 _ d h (goes_performs (child at n) (assign d) m _ refl))
+    (λ m' q. subst (λ m. Leads ts c at (n + 1) m k Q) (sym q) g))

@@ -27,11 +27,11 @@ inside_long es i n h k l = ap (is_inside (line i)) h ∙ within i n k l
 pub measure_read : (a : Name) (e : Index) (c : Env) (m : Memory) (i n : ℤ) → value_of e (sight_of c m) ≡ Ok i → is_inside (line i) (m.extents a) ≡ true → m.index a (line i) ≡ n → measure (At (cell a e)) (sight_of c m) ≡ Ok (plain n)
 measure_read a e c m i n h k q =
     measure-At (cell a e) (sight_of c m)
-        ∙ ap plain_answer
-            (cell_value_is (cell a e) (sight_of c m)
-                ∙ ap (λ x. x >>= (λ at. held a (cell_seen (sight_of c m) a at))) (subscripts-One e (sight_of c m) ∙ ap (λ x. three_answers x (Ok (pos 0)) (Ok (pos 0))) h)
-                ∙ ap (λ b. held a (if b then Some (m.index a (line i)) else None)) k
-                ∙ ap Ok q)
+    ∙ ap plain_answer
+    (cell_value_is (cell a e) (sight_of c m)
+    ∙ ap (λ x. x >>= (λ at. held a (cell_seen (sight_of c m) a at))) (subscripts-One e (sight_of c m) ∙ ap (λ x. three_answers x (Ok (pos 0)) (Ok (pos 0))) h)
+    ∙ ap (λ b. held a (if b then Some (m.index a (line i)) else None)) k
+    ∙ ap Ok q)
 
 pub value_by : (e : Index) (s : Sight) (w : Weighed) → measure e s ≡ Ok w → w.weight ≤ greatest → value_of e s ≡ Ok w.value
 value_by e s w h k = ap (λ x. x >>= judged) h ∙ judged_is w k
@@ -60,7 +60,7 @@ value_plus a b s x y h k l = value_by (Plus a b) s (sum_of x y) (measure_plus a 
 pub target_line : (a : Name) (e : Index) (c : Env) (m : Memory) (i : ℤ) → value_of e (sight_of c m) ≡ Ok i → is_inside (line i) (m.extents a) ≡ true → target_of (cell a e) c m ≡ Ok (line i)
 target_line a e c m i h k =
     ap (λ x. x >>= (λ at. if is_inside at (m.extents a) then Ok at else Err (Outside a))) (subscripts-One e (sight_of c m) ∙ ap (λ x. three_answers x (Ok (pos 0)) (Ok (pos 0))) h)
-        ∙ ap (λ b. if b then Ok (line i) else Err (Outside a)) k
+    ∙ ap (λ b. if b then Ok (line i) else Err (Outside a)) k
 
 pub put_line : (a : Name) (e v : Index) (c : Env) (m : Memory) (i n : ℤ) → value_of v (sight_of c m) ≡ Ok n → value_of e (sight_of c m) ≡ Ok i → is_inside (line i) (m.extents a) ≡ true → put_step (cell a e) v c m ≡ Ok (put a (line i) n)
 put_line a e v c m i n g h k = ap (λ x. x >>= (λ v. target_of (cell a e) c m >>= (λ at. Ok (put a at v)))) g ∙ ap (λ x. x >>= (λ at. Ok (put a at n))) (target_line a e c m i h k)
@@ -75,12 +75,12 @@ natural_is n = grind (arith, ints)
 grown_within : (k n : ℕ) → k + n ≤ greatest → (is_natural (pos n) && is_within (grown (pos n) (long (pos k)))) ≡ true
 grown_within k n h =
     ap (λ b. b && is_within (grown (pos n) (long (pos k)))) (natural_is n)
-        ∙ ap (λ b. b && is_small (pos ((k + n) * 1))) (at_most_is (k + n) greatest h)
-        ∙ ap (λ x. is_small (pos x)) (mul-one (k + n))
-        ∙ at_most_is (k + n) greatest h
+    ∙ ap (λ b. b && is_small (pos ((k + n) * 1))) (at_most_is (k + n) greatest h)
+    ∙ ap (λ x. is_small (pos x)) (mul-one (k + n))
+    ∙ at_most_is (k + n) greatest h
 
 pub grow_value : (a : Name) (e : Index) (c : Env) (m : Memory) (k n : ℕ) → value_of e (sight_of c m) ≡ Ok (pos n) → m.extents a ≡ long (pos k) → k + n ≤ greatest → grow_step a e c m ≡ Ok (grow a (pos n))
 grow_value a e c m k n h l p =
     ap (λ x. x >>= (λ n. if is_natural n && is_within (grown n (m.extents a)) then Ok (grow a n) else Err Range)) h
-        ∙ ap (λ es. if is_natural (pos n) && is_within (grown (pos n) es) then Ok (grow a (pos n)) else Err Range) l
-        ∙ ap (λ b. if b then Ok (grow a (pos n)) else Err Range) (grown_within k n p)
+    ∙ ap (λ es. if is_natural (pos n) && is_within (grown (pos n) es) then Ok (grow a (pos n)) else Err Range) l
+    ∙ ap (λ b. if b then Ok (grow a (pos n)) else Err Range) (grown_within k n p)
