@@ -1,0 +1,6 @@
+pub mod Bounded
+pub mod Sums
+pub mod Numbers
+pub mod Expressions
+pub mod Matrices
+pub mod Compacting

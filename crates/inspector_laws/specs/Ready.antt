@@ -1,0 +1,54 @@
+-- A matrix in the arrays of a memory, and a compacted level whose lines run on it.
+use Rattle.std.specs.Prelude.{◌≡◌, ℕ, zero, suc, ◌≤◌, ◌<◌, ◌^◌, pos, Bool, false, unsigned_abs}
+use Rattle.c_tree.specs.declared.program.Matrix.{Matrix}
+use Rattle.c_meaning.specs.Names.{same_name, line}
+use Rattle.c_meaning.specs.Memory.{Memory, Env}
+use Rattle.inspectors.specs.declared.level.Compacted.{Compacted}
+use Rattle.inspectors.specs.declared.level.Group.{Group}
+use Rattle.inspectors.specs.declared.level.Group.TheVariants.{All, Rows}
+use Rattle.inspectors.specs.declared.names.MarkNames.{MarkNames}
+use Rattle.inspectors.specs.Trees.{row_name, entry_name}
+use Rattle.sparse_marks.specs.Matrices.{Csr, IsCsr}
+use Rattle.sparse_marks.specs.Forms.{Form}
+use Rattle.inspector_runs.specs.Texts.{Arrays}
+use Rattle.inspector_runs.specs.Shown.{long, is_made, Apart}
+
+-- the matrix's parameters and index arrays hold this matrix, which is within the limits of inputs
+pub record Holds (x : Matrix) (c : Env) (m : Memory) (a : Csr) : Type 0 where
+  pub is_csr : IsCsr a
+  pub rows : c x.rows ≡ pos a.rows
+  pub cols : c x.cols ≡ pos a.cols
+  pub index : (r : ℕ) → r ≤ a.rows → m.index x.index (line (pos r)) ≡ pos (a.first r)
+  pub col : (k : ℕ) → k < a.first a.rows → m.index x.col (line (pos k)) ≡ pos (a.col k)
+  pub index_long : m.extents x.index ≡ long (pos (suc a.rows))
+  pub col_long : m.extents x.col ≡ long (pos (a.first a.rows))
+  pub rows_small : a.rows ≤ 2 ^ 24
+  pub cols_small : a.cols ≤ 2 ^ 24
+  pub entries_small : a.first a.rows ≤ 2 ^ 24
+
+-- the made arrays have names of their own, and the loop variables aren't the matrix's parameters
+pub record NamesFit (x : Matrix) (b : Arrays) : Type 0 where
+  pub apart : Apart b
+  pub index : is_made b x.index ≡ false
+  pub col : is_made b x.col ≡ false
+  pub row_rows : same_name row_name x.rows ≡ false
+  pub row_cols : same_name row_name x.cols ≡ false
+  pub entry_rows : same_name entry_name x.rows ≡ false
+  pub entry_cols : same_name entry_name x.cols ≡ false
+
+abbrev pub arrays_of : MarkNames → Arrays
+arrays_of b = record { ptr = b.ptr; val = b.val; num = b.num; mark = b.mark }
+
+-- a form with small numbers
+pub record IsSmallForm (f : Form) : Type 0 where
+  pub c : unsigned_abs f.c ≤ 64
+  pub s0 : unsigned_abs f.s0 ≤ 2 ^ 20
+  pub divisor : 0 < f.divisor
+
+abbrev pub group_of : ℕ → Group
+group_of zero = All
+group_of (suc k) = Rows (pos (suc k))
+
+-- the compacted level of a matrix with this form
+abbrev pub compacted : Matrix → Bool → Form → Compacted
+compacted x cols_first f = record { matrix = x; cols_first = cols_first; form = record { c = f.c; s0 = f.s0; divisor = pos f.divisor }; group = group_of f.rows }

@@ -1,0 +1,4 @@
+pub mod Rules
+pub mod Texts
+pub mod Shown
+pub mod Laws

@@ -1,0 +1,6 @@
+use Rattle.std.proofs.Common.{refl}
+use Rattle.sparse_layouts.proofs.Falling.{of_diagonals as law}
+use Rattle.sparse_layouts.proofs.diagonals_hold_the_matrix.Goals as goal
+
+pub returns : goal.returns
+returns c = record { law = law; case = refl; repeated = refl }

@@ -1,0 +1,4 @@
+pub mod Layouts
+pub mod Padded
+pub mod Laws
+pub mod Examples

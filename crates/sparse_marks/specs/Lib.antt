@@ -1,0 +1,7 @@
+pub mod Matrices
+pub mod Kept
+pub mod Forms
+pub mod Marks
+pub mod Walks
+pub mod Laws
+pub mod Examples

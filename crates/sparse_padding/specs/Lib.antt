@@ -1,0 +1,4 @@
+pub mod Products
+pub mod Positions
+pub mod Laws
+pub mod Examples
