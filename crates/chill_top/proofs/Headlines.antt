@@ -1,8 +1,8 @@
 -- The causes of answers tell what `emit` without commands promises for a source of the first form.
-use Rattle.std.proofs.Common.{◌≡◌, ℕ, ◌≤◌, ◌<◌, List, [], Option, None, Some, Ok, length, ap, sym, ◌∙◌, subst, arith}
+use Rattle.std.proofs.Common.{◌≡◌, ℕ, List, [], Option, None, Some, Ok, length, ap, sym, ◌∙◌, subst, arith, inl, inr}
 use Rattle.std.proofs.lemmas.Option.{same_Some, none-some}
 use Rattle.std.specs.Result.{result_ok}
-use Rattle.std.specs.Prelude.{◌⊎◌, Result}
+use Rattle.std.specs.Prelude.{Result}
 use Rattle.chill_base.specs.Outside.{FilesState, SinkState, Shelf, BothTold}
 use Rattle.outcomes.specs.declared.outcome.Outcome.{Outcome}
 use Rattle.outcomes.specs.declared.outcome.Outcome.TheVariants.{Done, Refused, Usage, ReadFault, WriteFault, NoMemory}
@@ -19,7 +19,7 @@ use Rattle.emission.specs.Emitting.{IsWritten, as_it_stands, written_for, Emits,
 use Rattle.run_jobs.specs.Jobs.{Cause, Has, IsLong, IsTooLong, RefusalCause}
 use Rattle.chill_top.specs.Emitting.{emitting}
 use Rattle.chill_top.specs.Answers.{Answers}
-use Rattle.chill_top.specs.Headline.{IsPlain, WrotePromised, IfTold, Headline, IsUnrefused, Completes}
+use Rattle.chill_top.specs.Headline.{IsPlain, WrotePromised, IfTold, Headline, Completes}
 
 -- what is Ok in two ways is one thing
 same_ok : {A E : Type 0} (r : Result A E) (x y : A) → r ≡ Ok x → r ≡ Ok y → x ≡ y
@@ -43,15 +43,18 @@ emits_promised rules first bytes second text origin q f s r p w m =
     let empty : recipes.recipe first ≡ Ok [] = ap recipes.recipe f ∙ r in
     let is : program_of second ≡ Ok origin = ap program_of s ∙ p in
     subst (λ b. PerformsAsSource list_of b text) s
-        (promised m.commands second text m.is_written origin q (same_ok (recipes.recipe first) [] m.commands empty m.is_recipe) is w)
+    (promised m.commands second text m.is_written origin q (same_ok (recipes.recipe first) [] m.commands empty m.is_recipe) is w)
 
 done_promised : (s s' : Shelf) (recipe source bytes : List ℕ) (out out' : SinkState) → Cause emitting recipe source s s' out out' Done
     → IsPlain s recipe source bytes → WrotePromised bytes out out'
 done_promised s s' recipe source bytes out out' c p =
-    let t = c.1.0 in
-    (c.0, (c.1.1.1, emits_promised p.rules t.first bytes t.second c.0 p.origin p.standing
-        (same_held s recipe t.first p.rules t.has_first.held p.has_recipe.held) (same_held s source t.second bytes t.has_second.held p.has_source.held)
-        p.empty p.is_program p.is_first_form t.makes))
+    let t = c.1 in (
+      c.0,
+      c.3,
+      emits_promised p.rules t.first bytes t.second c.0 p.origin p.standing
+          (same_held s recipe t.first p.rules t.has_first.held p.has_recipe.held) (same_held s source t.second bytes t.has_second.held p.has_source.held)
+          p.empty p.is_program p.is_first_form t.makes,
+    )
 
 told_done : (told told' : Option Shelf) (recipe source : List ℕ) (out out' : SinkState)
     → BothTold told told' (λ before after. Cause emitting recipe source before after out out' Done)
@@ -84,7 +87,7 @@ not_long s name bytes h l =
 not_too_long : (s : Shelf) (recipe source rules bytes : List ℕ) → Has s recipe rules → Has s source bytes → (r : Refusal)
     → IsTooLong emitting s recipe source r → ⊥
 not_too_long s recipe source rules bytes a b (FileLong file) (inl x) = not_long s recipe rules a x.1
-not_too_long s recipe source rules bytes a b (FileLong file) (inr y) = not_long s source bytes b y.1.1
+not_too_long s recipe source rules bytes a b (FileLong file) (inr y) = not_long s source bytes b y.2
 not_too_long s recipe source rules bytes a b (Recipe fault) x = x
 not_too_long s recipe source rules bytes a b (ProgramRefused fault) x = x
 not_too_long s recipe source rules bytes a b (Source fault) x = x
@@ -111,7 +114,7 @@ no_refusal s recipe source bytes r (inr (inl f)) p =
     not_refused f.bytes p.rules r (same_held s recipe f.bytes p.rules f.has.held p.has_recipe.held) p.empty f.refuses
 no_refusal s recipe source bytes r (inr (inr d)) p =
     not_denied d.first p.rules d.second bytes p.origin p.standing r (same_held s recipe d.first p.rules d.has_first.held p.has_recipe.held)
-        (same_held s source d.second bytes d.has_second.held p.has_source.held) p.empty p.is_program p.is_first_form d.denies
+    (same_held s source d.second bytes d.has_second.held p.has_source.held) p.empty p.is_program p.is_first_form d.denies
 
 told_refused : (told told' : Option Shelf) (recipe source : List ℕ) (out out' : SinkState) (r : Refusal)
     → BothTold told told' (λ before after. Cause emitting recipe source before after out out' (Refused r))

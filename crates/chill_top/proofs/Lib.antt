@@ -1,2 +1,4 @@
 pub mod Sized
 pub mod Headlines
+pub mod Reading
+pub mod Memory

@@ -1,14 +1,16 @@
 -- The numbers of `work` are in their ranges.
-use Rattle.std.proofs.Common.{◌≡◌, ℕ, ◌+◌, ◌-◌, ◌*◌, ◌≤◌, Bool, true, false, ◌&&◌, nat_le, List, [], ◌∷◌, Option, Some, None, if◌then◌else◌, refl, sym, ap, ◌∙◌, subst, arith}
+use Rattle.std.proofs.Common.{◌≡◌, ℕ, ◌+◌, ◌-◌, ◌*◌, ◌≤◌, Bool, true, false, ◌&&◌, nat_le, List, [], ◌∷◌, Option, Some, None, if◌then◌else◌, refl, sym, ap, ◌∙◌, arith}
 use Rattle.std.specs.Char.{is_ascii_digit}
 use Rattle.std.specs.Prelude.{codes}
 use Rattle.std.specs.Str.{bytes_eq}
 use Rattle.command_words.specs.Numbers.{number, number_from, is_no_number}
 use Rattle.command_words.specs.Words.{are_words}
-use Rattle.command_words.specs.Commands.{Text, Command, emit, run, trace, work, sized, named, command_in, command_of}
+use Rattle.command_words.specs.declared.request.Request.{Request}
+use Rattle.command_words.specs.declared.request.Request.TheVariants as is
+use Rattle.command_words.specs.Commands.{Text, Command, emit, run, trace, work, sized, named, command_in, command_of, request}
 
 pub record IsSized (seed size : ℕ) : Type 0 where
-  pub seed : seed ≤ 2147483647
+  pub small : seed ≤ 2147483647
   pub from : 1 ≤ size
   pub to : size ≤ 65536
 
@@ -63,7 +65,7 @@ named_sized : (v a b : Text) (seed size : ℕ) → named v a b ≡ asked (work s
 named_sized v a b seed size e =
     let is = choice a b (sized (number 2147483647 a) (number 65536 b)) seed size (bytes_eq v (codes "emit")) (bytes_eq v (codes "run")) (bytes_eq v (codes "trace")) (bytes_eq v (codes "work")) e in
     let numbers = sized_of (number 2147483647 a) (number 65536 b) seed size is in
-    record { seed = number_most 2147483647 a seed numbers.0; from = numbers.1.1; to = number_most 65536 b size numbers.1.0 }
+    record { small = number_most 2147483647 a seed numbers.0; from = numbers.1.1; to = number_most 65536 b size numbers.1.0 }
 
 in_words : (ws : List Text) (seed size : ℕ) → command_in ws ≡ asked (work seed size) → IsSized seed size
 in_words [] seed size e = absurd (no_command e)
@@ -78,3 +80,7 @@ words_sized ws seed size e = by (are_words ws) e
     by : (t : Bool) → (if t then command_in ws else None) ≡ asked (work seed size) → IsSized seed size
     by true e = in_words ws seed size e
     by false e = absurd (no_command e)
+
+-- a request of that kind
+pub request_sized : (ws : List Text) (r : Request) (seed size : ℕ) → r ≡ is.Work seed size → request (Some r) ≡ command_of ws → IsSized seed size
+request_sized ws r seed size e h = words_sized ws seed size (sym h ∙ ap (λ (r : Request). request (Some r)) e)

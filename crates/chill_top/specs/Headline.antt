@@ -2,8 +2,8 @@
 use Rattle.std.specs.Prelude.{◌≡◌, ℕ, List, [], Option, None, Some, Ok}
 use Rattle.chill_base.specs.Outside.{FilesState, SinkState, Shelf, Wrote}
 use Rattle.outcomes.specs.declared.outcome.Outcome.{Outcome}
-use Rattle.outcomes.specs.declared.outcome.Outcome.TheVariants.{Done, Refused, Usage, ReadFault, WriteFault, NoMemory}
-use Rattle.command_words.specs.Commands.{Command, emit, run, trace, work}
+use Rattle.outcomes.specs.declared.outcome.Outcome.TheVariants.{Done, Refused, Usage}
+use Rattle.command_words.specs.Commands.{Command, emit}
 use Rattle.c_tree.specs.declared.program.Program.{Program}
 use Rattle.c_loops.specs.Programs.{program_of}
 use Rattle.c_meaning.specs.Programs.{list_of}

@@ -1,5 +1,5 @@
 -- What holds of each answer of `work`, which reads no file.
-use Rattle.std.specs.Prelude.{◌≡◌, ◌≤◌, ℕ, List, []}
+use Rattle.std.specs.Prelude.{◌≡◌, ◌≤◌, []}
 use Rattle.chill_base.specs.Outside.{SinkState, Rose, Wrote}
 use Rattle.outcomes.specs.declared.outcome.Outcome.{Outcome}
 use Rattle.outcomes.specs.declared.outcome.Outcome.TheVariants.{WriteFault}

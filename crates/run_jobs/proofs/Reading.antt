@@ -32,7 +32,7 @@ faulty : (two : List ℕ) (x y z : Shelf) → y.held two ≡ x.held two → x.br
 faulty two x y z same le (inl none) = inl (sym same ∙ none)
 faulty two x y z same le (inr rose) = inr (rose_later (x.breaks two) (y.breaks two) (z.breaks two) le rose)
 
-second_unread : (job : Job) (asked : Option Command) (one two first : List ℕ) (s m s' : FilesState) (o : SinkState) (why : Unread)
+pub second_unread : (job : Job) (asked : Option Command) (one two first : List ℕ) (s m s' : FilesState) (o : SinkState) (why : Unread)
     → ReadsWhole s one m (Ok first) → job.passes first → ReadsWhole m two s' (Err why) → Does job asked one two s s' o o (outcome_of 2 why)
 second_unread job asked one two first s m s' o Fault h p k = record {
   cause = told_trans s.told m.told s'.told (λ x y. ReadsWholeShelf x one y (Ok first)) (λ x y. ReadsWholeShelf x two y (Err Fault)) (λ x y. Cause job one two x y o o (ReadFault 2))
