@@ -21,10 +21,6 @@ coefs_of s = s.base.coefs
 abbrev pub has_subscripts : ℕ → Access → Bool
 has_subscripts d a = nat_eq (length a.at) d
 
--- the statement with another right side
-abbrev pub with_value : Nest → Body → Nest
-with_value n b = record { levels = n.levels; positions = n.positions; terms = n.terms; rows = n.rows; target = n.target; how = n.how; value = b; whole = n.whole }
-
 -- the sides are those of a box that a statement reads of an array while its levels from this one on vary
 pub record IsReadBox (k : Kernel) (s level : ℕ) (array : List ℕ) (sides : List Side) : Type 0 where
   pub nest : Nest

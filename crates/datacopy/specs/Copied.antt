@@ -17,13 +17,9 @@ use Rattle.nest_tree.specs.declared.kernel.Kernel.{Kernel}
 use Rattle.nest_tree.specs.declared.kernel.Nest.{Nest}
 use Rattle.nest_tree.specs.declared.made.Made.{Made}
 use Rattle.nest_tree.specs.declared.made.MadeWhat.TheVariants.{Copy}
-use Rattle.nest_core.specs.Order.{shares_loop, numbered}
+use Rattle.nest_core.specs.Order.{numbered}
 use Rattle.nest_core.specs.Shapes.{IsShapedNest}
-
--- the statements from place i on, but for statement s, that share the loop with this one
-abbrev pub any_shares : ℕ → ℕ → ℕ → Nest → List Nest → Bool
-any_shares i s level n [] = false
-any_shares i s level n (m ∷ ms) = (shares_loop level n m && not (nat_eq i s)) || any_shares (suc i) s level n ms
+use Rattle.one_statement.specs.Alone.{any_shares}
 
 -- the first of these shapes that holds
 abbrev pub lowest : List (Bool × ShapeWhy) → Option ShapeWhy

@@ -5,7 +5,6 @@ mod body;
 mod bounds;
 mod boxes;
 mod command;
-mod copies;
 mod copying;
 mod enter;
 mod extents;

@@ -1,5 +1,5 @@
 // The statements of a kernel with a copying statement among them.
-ghost use Rattle.std.specs.Prelude.{◌≡◌, ◌++◌, ◌<◌, ◌≤◌, ◌+◌, ◌-◌, suc, length, IfOk, IsTrue, OnOk};
+ghost use Rattle.std.specs.Prelude.{◌≡◌, ◌<◌, ◌≤◌, ◌+◌, ◌-◌, suc, length, IfOk, IsTrue};
 ghost use Rattle.std.specs.List.{list_all, AllByRecursion};
 ghost use Rattle.nest_core.specs.Shapes.{vars_of, IsShapedNest};
 ghost use Rattle.datacopy.specs.Boxes.{is_side_over, has_subscripts, IsReadBox};
@@ -7,7 +7,6 @@ ghost use Rattle.datacopy.specs.Copied.{AreCounted, with_both};
 ghost use Rattle.datacopy.specs.Reads as spec;
 
 use crate::body::redirect;
-use crate::copies::{copy_nest, copy_with};
 use crate::copying::copying_statement;
 use crate::side::Side;
 use c_tree::Program;
@@ -15,17 +14,8 @@ use chill_base::{List, Name, NoMemory, Stop};
 use int_rows::Excess;
 use nest_core::number;
 use nest_tree::{Kernel, Nest};
+use one_statement::{copy_with, push_copies};
 use std::alloc::Global;
-
-/// Appends copies of statements.
-fn push_copies(alloc: Global, nests: &mut Vec<Nest>, more: &[Nest]) -> Result<(), NoMemory>
-    ensures { OnOk result (nests.new.items ≡ nests.old.items ++ more.now) }
-{
-    for nest in more {
-        nests.push(copy_nest(alloc, nest)?)?;
-    }
-    Ok(())
-}
 
 /// The statements with two in the place of one.
 fn with_both(

@@ -2,9 +2,9 @@
 ghost use Rattle.std.specs.Prelude.{◌≡◌, ◌++◌, IfOk, bytes_eq};
 ghost use Rattle.datacopy.specs.Reads as spec;
 
-use crate::copies::copy_access;
 use chill_base::{List, Name, NoMemory};
 use nest_tree::{Access, Body};
+use one_statement::copy_access;
 use std::alloc::Global;
 
 /// The reads of the array, from the left.

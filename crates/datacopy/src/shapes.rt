@@ -3,29 +3,16 @@ ghost use Rattle.std.specs.Prelude.{◌≡◌, ◌≤◌, length, IfOk, IsTrue};
 ghost use Rattle.std.specs.List.{list_all};
 ghost use Rattle.nest_core.specs.Shapes.{vars_of, IsShapedNest, IsShaped};
 ghost use Rattle.datacopy.specs.Boxes.{is_side_over, has_subscripts, IsReadBox};
-ghost use Rattle.datacopy.specs.Copied.{any_shares, nest_shape, first_shape, GivesFirst};
+ghost use Rattle.datacopy.specs.Copied.{nest_shape, first_shape, GivesFirst};
 ghost use Rattle.datacopy.specs.Reads as spec;
 
 use crate::boxes::box_of;
 use crate::reads::{is_name, reads_of};
 use crate::side::Side;
 use chill_base::{Name, Stop};
-use nest_core::shares_loop;
 use nest_tree::{Kernel, Nest, ShapeWhy};
+use one_statement::is_alone;
 use std::alloc::Global;
-
-/// Whether another statement shares the loop with this one.
-fn is_shared(nests: &[Nest], statement: usize, level: usize, nest: &Nest) -> bool
-    ensures { result ≡ any_shares 0 statement level nest.now nests.now }
-{
-    for other in 0..nests.len() {
-        let shares = shares_loop(level, nest, &nests[other]);
-        if shares && other != statement {
-            return true;
-        }
-    }
-    false
-}
 
 /// The first shape of a statement that exists.
 fn nest_shape(
@@ -40,7 +27,7 @@ fn nest_shape(
     if !(1 <= level && level <= nest.levels.len()) {
         return Some(ShapeWhy::NoLoop);
     }
-    if is_shared(nests, statement, level, nest) {
+    if !is_alone(nests, statement, level, nest) {
         return Some(ShapeWhy::NotAlone);
     }
     if is_name(nest.target.array, array) {

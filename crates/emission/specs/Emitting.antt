@@ -39,11 +39,6 @@ IsLater count (CommandRefused number fault) = (1 ≤ number) × (number ≤ coun
 IsLater count (Scan fault) = Unit {0}
 IsLater count refusal = ⊥
 
--- why a text is refused: it is no program, for a cause that the grammar and the rules show
-abbrev pub ProgramCause : Result Program ProgramFault → Refusal → Type 0
-ProgramCause (Ok program) refusal = ⊥
-ProgramCause (Err fault) refusal = refusal ≡ ProgramRefused fault
-
 -- the program is the one that is given, if one is
 abbrev pub IsFor : Option Program → Program → Type 0
 IsFor None q = Unit {0}

@@ -4,7 +4,7 @@ ghost use Rattle.c_judge.specs.Rules.{KeepsRules};
 ghost use Rattle.source_limits.specs.Executor.{HasExecutor};
 ghost use Rattle.recipe_read.specs.Recipe as recipes;
 ghost use Rattle.emission.specs.Emitting.{as_it_stands, IsLater, IsFor, IsWritten, SourceCause, Emits, Denies, HasCommands, EmitCause};
-ghost use Rattle.emission.specs.Refusing.{IfRefused};
+ghost use Rattle.outcomes.specs.Refusing.{IfRefused};
 ghost use Rattle.c_loops.specs.Programs.{program_of};
 
 use crate::kernel::through_kernel;

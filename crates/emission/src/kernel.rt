@@ -4,7 +4,7 @@ ghost use Rattle.c_judge.specs.Rules.{KeepsRules};
 ghost use Rattle.source_limits.specs.Executor.{HasExecutor};
 ghost use Rattle.nest_core.specs.Shapes.{IsShaped};
 ghost use Rattle.emission.specs.Emitting.{IsLater};
-ghost use Rattle.emission.specs.Refusing.{IfRefused};
+ghost use Rattle.outcomes.specs.Refusing.{IfRefused};
 
 use c_tree::Program;
 use chill_base::Stop;

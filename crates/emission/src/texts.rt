@@ -5,8 +5,8 @@ ghost use Rattle.c_grammar.specs.Program.{IsProgram};
 ghost use Rattle.c_judge.specs.Rules.{KeepsRules};
 ghost use Rattle.c_loops.specs.Programs.{program_of};
 ghost use Rattle.recipe_read.specs.Recipe as recipes;
-ghost use Rattle.emission.specs.Emitting.{HasCommands, RecipeCause, ProgramCause};
-ghost use Rattle.emission.specs.Refusing.{IfRefused};
+ghost use Rattle.emission.specs.Emitting.{HasCommands, RecipeCause};
+ghost use Rattle.outcomes.specs.Refusing.{IfRefused, ProgramCause};
 
 use c_loops::read_program;
 use c_tree::Program;

@@ -6,7 +6,7 @@ use Rattle.c_judge.specs.declared.faults.ProgramFault.TheVariants.{Name as Named
 use Rattle.emission.specs.Emitting.{Emits, EmitCause}
 use Rattle.outcomes.specs.declared.outcome.Refusal.{Refusal}
 use Rattle.outcomes.specs.declared.outcome.Refusal.TheVariants.{Program as ProgramRefused, FileLong}
-use Rattle.text_runs.specs.Refusing.{ProgramCause}
+use Rattle.outcomes.specs.Refusing.{ProgramCause}
 use Rattle.text_runs.specs.Running.{RunDenies}
 use Rattle.measured_run.specs.declared.summary.Figures.{Figures}
 

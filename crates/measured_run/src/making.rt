@@ -4,7 +4,7 @@ ghost use Rattle.c_grammar.specs.Program.{IsProgram};
 ghost use Rattle.c_judge.specs.Rules.{KeepsRules};
 ghost use Rattle.c_loops.specs.Programs.{program_of};
 ghost use Rattle.c_tokens.specs.Pieces.{tokens_of};
-ghost use Rattle.text_runs.specs.Refusing.{IfRefused, ProgramCause};
+ghost use Rattle.outcomes.specs.Refusing.{IfRefused, ProgramCause};
 ghost use Rattle.text_runs.specs.Running.{RunDenies};
 ghost use Rattle.measured_run.specs.Work.{IsSummary, IsTooLong, IsUnnamed, WorkCause};
 

@@ -3,3 +3,4 @@ pub mod Made
 pub mod Images
 pub mod Put
 pub mod Alone
+pub mod Copies

@@ -1,5 +1,6 @@
 // Copies of statements.
-ghost use Rattle.std.specs.Prelude.{◌≡◌, IfOk};
+ghost use Rattle.std.specs.Prelude.{◌≡◌, ◌++◌, IfOk, OnOk};
+ghost use Rattle.one_statement.specs.Copies.{with_value};
 
 use chill_base::{Boxed, List, NoMemory};
 use nest_systems::{copy_forms, copy_row, copy_term};
@@ -7,7 +8,7 @@ use nest_tree::{Access, Body, KernelRow, Nest, Term};
 use std::alloc::Global;
 
 /// A copy of a cell.
-fn copy_access(alloc: Global, access: &Access) -> Result<Access, NoMemory>
+pub fn copy_access(alloc: Global, access: &Access) -> Result<Access, NoMemory>
     ensures { IfOk result (λ a. a ≡ access.now) }
 {
     Ok(Access {
@@ -77,11 +78,10 @@ fn copy_two(alloc: Global, a: &Body, b: &Body) -> Result<(Boxed<Body>, Boxed<Bod
     Ok((Boxed::new(alloc, x)?, Boxed::new(alloc, y)?))
 }
 
-/// A copy of a statement.
-pub fn copy_nest(alloc: Global, nest: &Nest) -> Result<Nest, NoMemory>
-    ensures { IfOk result (λ n. n ≡ nest.now) }
+/// A copy of a statement with another right side.
+pub fn copy_with(alloc: Global, nest: &Nest, value: Body) -> Result<Nest, NoMemory>
+    ensures { IfOk result (λ n. n ≡ with_value nest.now value) }
 {
-    let value = copy_body(alloc, &nest.value)?;
     let rows = copy_rows(alloc, nest.rows.as_slice())?;
     let terms = copy_terms(alloc, nest.terms.as_slice())?;
     let target = copy_access(alloc, &nest.target)?;
@@ -95,4 +95,22 @@ pub fn copy_nest(alloc: Global, nest: &Nest) -> Result<Nest, NoMemory>
         value,
         whole: nest.whole,
     })
+}
+
+/// A copy of a statement.
+pub fn copy_nest(alloc: Global, nest: &Nest) -> Result<Nest, NoMemory>
+    ensures { IfOk result (λ n. n ≡ nest.now) }
+{
+    let value = copy_body(alloc, &nest.value)?;
+    copy_with(alloc, nest, value)
+}
+
+/// Appends copies of statements.
+pub fn push_copies(alloc: Global, nests: &mut Vec<Nest>, more: &[Nest]) -> Result<(), NoMemory>
+    ensures { OnOk result (nests.new.items ≡ nests.old.items ++ more.now) }
+{
+    for nest in more {
+        nests.push(copy_nest(alloc, nest)?)?;
+    }
+    Ok(())
 }

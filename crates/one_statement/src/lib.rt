@@ -11,7 +11,7 @@ mod put;
 mod replace;
 
 pub use alone::is_alone;
-pub use copies::copy_nest;
+pub use copies::{copy_access, copy_nest, copy_with, push_copies};
 pub use images::{Images, image_form};
 pub use made::{has_room, made_name};
 pub use names::is_free;

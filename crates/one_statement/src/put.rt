@@ -1,11 +1,11 @@
 // A statement is put in the place of another.
-ghost use Rattle.std.specs.Prelude.{◌≡◌, ◌++◌, ◌≤◌, ◌<◌, length, take, IfOk, OnOk, OnErr};
+ghost use Rattle.std.specs.Prelude.{◌≡◌, ◌≤◌, ◌<◌, length, take, IfOk, OnOk, OnErr};
 ghost use Rattle.std.specs.List.{AllByRecursion};
 ghost use Rattle.nest_core.specs.Order.{numbered};
 ghost use Rattle.nest_core.specs.Shapes.{IsShapedNest, IsShaped};
 ghost use Rattle.one_statement.specs.Put as spec;
 
-use crate::copies::copy_nest;
+use crate::copies::push_copies;
 use c_tree::{Program, Stmt};
 use chill_base::{List, NoMemory};
 use nest_core::number;
@@ -34,16 +34,6 @@ fn append_all<T: Drop>(list: &mut List<T>, more: List<T>) -> Result<(), NoMemory
             truncate(list, before);
             return Err(NoMemory);
         }
-    }
-    Ok(())
-}
-
-/// Appends copies of statements.
-fn push_copies(alloc: Global, nests: &mut Vec<Nest>, more: &[Nest]) -> Result<(), NoMemory>
-    ensures { OnOk result (nests.new.items ≡ nests.old.items ++ more.now) }
-{
-    for nest in more {
-        nests.push(copy_nest(alloc, nest)?)?;
     }
     Ok(())
 }

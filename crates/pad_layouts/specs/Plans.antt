@@ -1,5 +1,5 @@
 -- What statements are padded to, or the first condition that isn't met.
-use Rattle.std.specs.Prelude.{◌≡◌, ◌<◌, IsTrue, ℕ, suc, ◌+◌, ◌-◌, Bool, false, cond, not, ◌&&◌, ◌||◌, nat_eq, nat_le, List, [], ◌∷◌, length, Option, Some, None, slice_get, Result, Ok, Err}
+use Rattle.std.specs.Prelude.{◌≡◌, ◌<◌, IsTrue, ℕ, ◌+◌, ◌-◌, Bool, cond, not, ◌&&◌, nat_eq, nat_le, List, length, Option, Some, None, slice_get, Result, Ok, Err}
 use Rattle.std.specs.List.{list_any}
 use Rattle.chill_base.specs.declared.padding.Padding.{Padding}
 use Rattle.c_tree.specs.declared.program.Matrix.{Matrix}
@@ -8,8 +8,8 @@ use Rattle.nest_tree.specs.declared.fault.ShapeWhy.{ShapeWhy}
 use Rattle.nest_tree.specs.declared.fault.ShapeWhy.TheVariants.{NoStatement, NoLoop, NotTraversal, NotProduct, NotAlone}
 use Rattle.nest_tree.specs.declared.kernel.Kernel.{Kernel}
 use Rattle.nest_tree.specs.declared.kernel.Nest.{Nest}
-use Rattle.nest_core.specs.Order.{shares_loop}
 use Rattle.nest_core.specs.Shapes.{vars_of}
+use Rattle.one_statement.specs.Alone.{any_shares}
 use Rattle.pad_layouts.specs.Moved.{is_pick}
 use Rattle.pad_layouts.specs.declared.layout.Layout.{Layout}
 use Rattle.pad_layouts.specs.declared.layout.Layout.TheVariants.{Block, Diag, Rows}
@@ -48,11 +48,6 @@ whole_plan head n kind = with_number head n kind n.whole
 -- the statement is a product with the entry's value, and no statement writes the values
 abbrev pub can_pad : ℕ → List Nest → Nest → Plan → Bool
 can_pad params nests n p = is_product p.matrix.value (params + (length n.levels - 1)) p.column n && not (list_any (writes p.matrix.value) nests)
-
--- the statements from place i on, but for statement s, that share the loop with this one
-abbrev pub any_shares : ℕ → ℕ → ℕ → Nest → List Nest → Bool
-any_shares i s level n [] = false
-any_shares i s level n (m ∷ ms) = (shares_loop level n m && not (nat_eq i s)) || any_shares (suc i) s level n ms
 
 -- one of d levels, and the one that the kind is made at
 abbrev pub is_level : ℕ → ℕ → Padding → Bool

@@ -12,8 +12,8 @@ use crate::layout::{Layout, layout_of, level_of};
 use crate::product::{Entry, any_writes, is_product};
 use c_tree::{Matrix, Program};
 use chill_base::Padding;
-use nest_core::shares_loop;
 use nest_tree::{Form, Kernel, Nest, ShapeWhy};
+use one_statement::is_alone;
 
 /// What a statement is padded to.
 #[derive(Clone, Copy)]
@@ -115,19 +115,6 @@ fn can_pad(head: &Program, nests: &[Nest], nest: &Nest, plan: &Plan) -> bool
     is_product(&entry, nest) && !any_writes(plan.matrix.value, nests)
 }
 
-/// Whether another statement shares the loop with this one.
-fn is_shared(nests: &[Nest], statement: usize, level: usize, nest: &Nest) -> bool
-    ensures { result ≡ spec.any_shares 0 statement level nest.now nests.now }
-{
-    for other in 0..nests.len() {
-        let shares = shares_loop(level, nest, &nests[other]);
-        if shares && other != statement {
-            return true;
-        }
-    }
-    false
-}
-
 /// Whether the level is one of the statement's, and the one that the kind of padding is made at.
 fn is_level(nest: &Nest, level: usize, kind: Padding) -> bool
     ensures { result ≡ spec.is_level (length nest.now.levels) level kind }
@@ -157,7 +144,7 @@ fn nest_plan(
     if !can_pad(head, nests, nest, &plan) {
         return Err(ShapeWhy::NotProduct);
     }
-    if is_shared(nests, statement, 1, nest) {
+    if !is_alone(nests, statement, 1, nest) {
         return Err(ShapeWhy::NotAlone);
     }
     Ok(plan)

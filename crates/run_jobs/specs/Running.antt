@@ -2,7 +2,7 @@
 use Rattle.std.specs.Prelude.{◌≡◌, ◌⊎◌, ℕ, List, []}
 use Rattle.chill_base.specs.Outside.{Shelf}
 use Rattle.c_loops.specs.Programs.{program_of}
-use Rattle.text_runs.specs.Refusing.{ProgramCause}
+use Rattle.outcomes.specs.Refusing.{ProgramCause}
 use Rattle.outcomes.specs.declared.outcome.Outcome.{Outcome}
 use Rattle.outcomes.specs.declared.outcome.Outcome.TheVariants.{Done, Refused, Usage, ReadFault, WriteFault, NoMemory}
 use Rattle.text_runs.specs.Running.{IsProgramText, RunMakes, RunDenies}

@@ -5,7 +5,7 @@ use Rattle.c_tree.specs.declared.program.Program.{Program}
 use Rattle.c_loops.specs.Programs.{program_of}
 use Rattle.csr_data.specs.Lines.{Given}
 use Rattle.csr_data.specs.Matrices.{says}
-use Rattle.text_runs.specs.Refusing.{ProgramCause}
+use Rattle.outcomes.specs.Refusing.{ProgramCause}
 use Rattle.outcomes.specs.declared.outcome.Refusal.{Refusal}
 use Rattle.outcomes.specs.declared.outcome.Refusal.TheVariants as refusal
 use Rattle.program_run.specs.Runs.{IsDone, is_inspector, section_of}

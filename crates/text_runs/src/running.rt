@@ -4,8 +4,8 @@ ghost use Rattle.c_grammar.specs.Program.{IsProgram};
 ghost use Rattle.c_judge.specs.Rules.{KeepsRules};
 ghost use Rattle.c_loops.specs.Programs.{program_of};
 ghost use Rattle.c_tokens.specs.Pieces.{tokens_of};
-ghost use Rattle.text_runs.specs.Refusing.{ProgramCause};
-ghost use Rattle.text_runs.specs.Refusing.{IfRefused};
+ghost use Rattle.outcomes.specs.Refusing.{ProgramCause};
+ghost use Rattle.outcomes.specs.Refusing.{IfRefused};
 ghost use Rattle.program_run.specs.Texts.{Gives};
 ghost use Rattle.text_runs.specs.Running.{RunCause, RunMakes, RunDenies, Leaves};
 

@@ -3,7 +3,7 @@ ghost use Rattle.std.specs.Prelude.{◌≡◌, ◌≤◌, ◌^◌, IfOk, IfErr, 
 ghost use Rattle.c_grammar.specs.Program.{IsProgram};
 ghost use Rattle.c_judge.specs.Rules.{KeepsRules};
 ghost use Rattle.c_tokens.specs.Pieces.{tokens_of};
-ghost use Rattle.text_runs.specs.Refusing.{IfRefused};
+ghost use Rattle.outcomes.specs.Refusing.{IfRefused};
 ghost use Rattle.program_run.specs.Texts.{Gives};
 ghost use Rattle.text_runs.specs.Running.{RunCause};
 

@@ -1,6 +1,0 @@
-use Rattle.std.proofs.Common.{◌≡◌, drop}
-use Rattle.datacopy.specs.Copied.{any_shares}
-use Rattle.datacopy.proofs.shapes.is_shared.Given as goal
-
-abbrev pub invariant-loop-other : goal.invariant-loop-other
-invariant-loop-other l = any_shares l.other l.statement l.level l.nest (drop l.other l.nests) ≡ any_shares 0 l.statement l.level l.nest l.nests
