@@ -1,5 +1,5 @@
 // A statement is put in the place of another.
-ghost use Rattle.std.specs.Prelude.{◌≡◌, ◌≤◌, ◌<◌, length, take, IfOk, OnOk, OnErr};
+ghost use Rattle.std.specs.Prelude.{◌≡◌, ◌++◌, ◌≤◌, ◌<◌, length, take, IfOk, OnOk, OnErr};
 ghost use Rattle.std.specs.List.{AllByRecursion};
 ghost use Rattle.nest_core.specs.Order.{numbered};
 ghost use Rattle.nest_core.specs.Shapes.{IsShapedNest, IsShaped};
