@@ -1,10 +1,10 @@
 -- What the calls of a system keep, and what they answer.
-use Rattle.std.proofs.Common.{◌≡◌, ℕ, zero, suc, ◌<◌, ◌≤◌, ◌+◌, ◌-◌, ◌^◌, ℤ, negsuc, neg_ℤ, ◌-ℤ◌, length, List, ◌++◌, ◌∷◌, [], Bool, true, false, not, cond, arith, refl, length-append, map, ap, sym, ◌∙◌, subst}
-use Rattle.std.specs.Prelude.{Option, Some, None, Result, Ok, Err, nat_le, unsigned_abs, filter}
+use Rattle.std.proofs.Common.{◌≡◌, ℕ, zero, suc, ◌<◌, ◌≤◌, ◌+◌, ◌-◌, ◌^◌, ℤ, pos, negsuc, neg_ℤ, ◌-ℤ◌, length, List, ◌++◌, ◌∷◌, [], Bool, true, false, not, cond, arith, refl, length-append, map, ap, sym, ◌∙◌, subst}
+use Rattle.std.specs.Prelude.{Option, Some, None, Result, Ok, Err, nat_le, unsigned_abs, filter, slice_get, slice_index_or}
 use Rattle.std.specs.List.{position_from, list_all, list_any}
 use Rattle.std.proofs.lemmas.Int.{ints}
 use Rattle.std.proofs.lemmas.Bool.{le-ltb, lt-ltb, le-leb, lt-leb, and_parts, and_from}
-use Rattle.int_rows.specs.Rows.{numbers}
+use Rattle.int_rows.specs.Rows.{coef_at, numbers}
 use Rattle.int_rows.specs.Elimination.{is_small, made, made_small, outcome, merged, elimination}
 use Rattle.int_rows.specs.Exclusion.{is_plain, is_impossible, when_left, exclusion}
 use Rattle.int_rows.specs.Systems.{Rows, IsRowOf, IsSystem, with_rows, pushed, replaced, replaced_past, first_of, substituted, with_left, eliminated, excluded, negation, implied}
@@ -14,8 +14,8 @@ use Rattle.int_rows.specs.declared.row.Excess.{Excess}
 use Rattle.int_rows.specs.declared.row.Excess.TheVariants.{Large, Many}
 use Rattle.chill_base.specs.declared.faults.Stop.{Stop}
 use Rattle.chill_base.specs.declared.faults.Stop.TheVariants.{Refused, NoMemory}
-use Rattle.chill_base.proofs.Each.{each-append, each-filter, each-weaker}
-use Rattle.int_rows.proofs.RowsLeft.{outcomes-rows, replaced-each}
+use Rattle.chill_base.proofs.Each.{each-append, each-filter, each-get, each-weaker}
+use Rattle.int_rows.proofs.RowsLeft.{outcomes-rows, replaced-each, small-last}
 use Rattle.int_sets.specs.Answers.{Answers, Decides}
 use Rattle.int_sets.specs.Gathering.{Keeps, Stops, PassesAt}
 
@@ -185,3 +185,19 @@ front-small (x ∷ xs) k h = let p = and_parts (is_small x) _ h in and_from _ _ 
 
 pub none-small : (xs : List ℤ) (k : ℤ) → None ≡ position_from (λ z. not (is_small z)) 0 (xs ++ k ∷ []) → list_all is_small xs ≡ true
 none-small xs k e = front-small xs k (all_small (xs ++ k ∷ []) 0 (sym e))
+
+-- ---- numbers of a row are within the limit
+coef-small : (xs : List ℤ) (k : ℤ) (x : ℕ) → list_all is_small (xs ++ k ∷ []) ≡ true → is_small (slice_index_or xs x (pos 0)) ≡ true
+coef-small [] k x h = refl
+coef-small (z ∷ xs) k zero h = (and_parts (is_small z) _ h).0
+coef-small (z ∷ xs) k (suc x) h = coef-small xs k x (and_parts (is_small z) _ h).1
+
+module _ (s : Rows) (h : IsSystem s) (at : ℕ) (r : Row) (is : slice_get s.rows at ≡ Some r) where
+  pub row-small : list_all is_small (numbers r.form) ≡ true
+  row-small = (each-get (IsRowOf s.vars) s.rows at r h.each is).small
+
+  pub row-coef_small : (x : ℕ) → is_small (coef_at x r) ≡ true
+  row-coef_small x = coef-small r.form.coefs r.form.constant x row-small
+
+  pub row-constant_small : is_small r.form.constant ≡ true
+  row-constant_small = small-last r.form.coefs r.form.constant row-small

@@ -1,9 +1,9 @@
 -- What an elimination keeps of all that it makes.
-use Rattle.std.proofs.Common.{◌≡◌, ℕ, zero, suc, ◌+◌, ◌-◌, ◌<◌, List, ◌++◌, ◌∷◌, [], Bool, true, false, length, map, take, drop, get_or, add-one, refl, sym, ap, subst, arith, pos}
+use Rattle.std.proofs.Common.{◌≡◌, ℕ, suc, ◌+◌, List, ◌++◌, ◌∷◌, [], Bool, true, false, length, map, take, drop, add-one, refl, subst, arith, pos}
 use Rattle.std.specs.Prelude.{Some, None, filter, flat_map, slice_get}
 use Rattle.std.specs.List.{list_all, position_or_len}
 use Rattle.std.proofs.lemmas.Bool.{and_parts, not-true}
-use Rattle.std.proofs.lemmas.List.{map-append, take_all, length-drop}
+use Rattle.std.proofs.lemmas.List.{map-append, take_all}
 use Rattle.chill_base.proofs.Each.{found-passes}
 use Rattle.int_rows.specs.Rows.{coef_at}
 use Rattle.int_rows.specs.Elimination.{Made, stays, made_small, outcome, canceled, substituted, holds_not, is_above, is_below, is_equality_with, paired, made, merged}
@@ -15,27 +15,22 @@ use Rattle.int_rows.specs.declared.row.Excess.{Excess}
 use Rattle.int_sets.specs.Gathering.{Keeps, Stops}
 use Rattle.int_sets.proofs.Progress.{all-append}
 
-get-is : {A : Type 0} (xs : List A) (i : ℕ) (x : A) → i < length xs → x ≡ get_or xs i x → slice_get xs i ≡ Some x
-get-is [] i x h e = absurd (omega arith)
-get-is (y ∷ xs) zero x h e = ap Some (sym e)
-get-is (y ∷ xs) (suc i) x h e = get-is xs i x (omega arith) e
-
 get-none : {A : Type 0} (xs : List A) → slice_get xs (length xs) ≡ None
 get-none [] = refl
 get-none (x ∷ xs) = get-none xs
 
 module _ (x : ℕ) (rows : List Row) where
   -- the first equality is taken
-  pub made-equality : (i : ℕ) (e : Row) → i ≡ position_or_len (is_equality_with x) rows → i < length rows → e ≡ get_or rows i e
-      → made x rows ≡ map (substituted x e) (take i rows) ++ map (substituted x e) (take (length rows - (i + 1)) (drop (i + 1) rows))
+  pub made-equality : (i : ℕ) (e : Row) → i ≡ position_or_len (is_equality_with x) rows → slice_get rows i ≡ Some e
+      → made x rows ≡ map (substituted x e) (drop 0 (take i rows)) ++ map (substituted x e) (drop (i + 1) (take (length rows) rows))
   unfolding made
-  made-equality i e at l is =
-      let all : take (length rows - (i + 1)) (drop (i + 1) rows) ≡ drop (i + 1) rows = take_all (length rows - (i + 1)) (drop (i + 1) rows) (omega (arith, length-drop (i + 1) rows)) in
-      rw (← at, get-is rows i e l is, all, add-one i) (map-append (substituted x e) (take i rows) (drop (suc i) rows))
+  made-equality i e at is =
+      let all : take (length rows) rows ≡ rows = take_all (length rows) rows (omega arith) in
+      rw (← at, is, all, add-one i) (map-append (substituted x e) (take i rows) (drop (suc i) rows))
 
-  pub equality-holds : (i : ℕ) (e : Row) → i ≡ position_or_len (is_equality_with x) rows → i < length rows → e ≡ get_or rows i e → coef_at x e ≡ pos 0 → ⊥
-  equality-holds i e at l is =
-      int_eq-no (coef_at x e) (not-true _ (and_parts e.equal _ (found-passes (is_equality_with x) rows e (subst (λ k. slice_get rows k ≡ Some e) at (get-is rows i e l is)))).1)
+  pub equality-holds : (i : ℕ) (e : Row) → i ≡ position_or_len (is_equality_with x) rows → slice_get rows i ≡ Some e → coef_at x e ≡ pos 0 → ⊥
+  equality-holds i e at is =
+      int_eq-no (coef_at x e) (not-true _ (and_parts e.equal _ (found-passes (is_equality_with x) rows e (subst (λ k. slice_get rows k ≡ Some e) at is))).1)
 
   -- no equality holds the variable
   pub made-pairs : position_or_len (is_equality_with x) rows ≡ length rows

@@ -1,7 +1,10 @@
 pub mod Combining
 pub mod Canceling
-pub mod Absorbing
+pub mod Unpacking
+pub mod Keys
 pub mod Calls
 pub mod Progress
 pub mod Gathered
 pub mod Replacing
+pub mod Dividing
+pub mod Walking

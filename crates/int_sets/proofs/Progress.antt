@@ -1,12 +1,16 @@
 -- A loop that makes rows, by the steps that are left.
-use Rattle.std.proofs.Common.{◌≡◌, ℕ, suc, ◌+◌, ◌<◌, ◌≤◌, List, ◌++◌, ◌∷◌, [], Bool, true, false, ◌&&◌, length, map, drop, get_or, drop-cons, add-one, append_assoc, append-nil, refl, sym, ap, ◌∙◌, subst, arith}
-use Rattle.std.specs.Prelude.{filter, flat_map}
+use Rattle.std.proofs.Common.{◌≡◌, ℕ, zero, suc, ◌+◌, ◌<◌, ◌≤◌, List, ◌++◌, ◌∷◌, [], Bool, true, false, ◌&&◌, length, map, take, drop, drop-cons, add-one, append_assoc, append-nil, refl, sym, ap, ◌∙◌, subst, arith}
+use Rattle.std.specs.Prelude.{Some, Err, filter, flat_map, slice_get}
 use Rattle.std.specs.List.{list_all}
 use Rattle.std.proofs.lemmas.Bool.{cond_both}
+use Rattle.std.proofs.lemmas.Option.{slice_get_within, get_or_from_slice_get}
 use Rattle.std.proofs.lemmas.Grind.{fold-append}
 use Rattle.std.proofs.lemmas.List.{map-append, drop_all}
 use Rattle.int_rows.specs.Elimination.{Made, stays, made_small, outcome, is_alike, tightest, absorbed, merged}
-use Rattle.int_sets.specs.Gathering.{Keeps}
+use Rattle.chill_base.specs.declared.faults.Stop.{Stop}
+use Rattle.chill_base.specs.declared.faults.Stop.TheVariants.{Refused, NoMemory}
+use Rattle.int_rows.specs.declared.row.Excess.{Excess}
+use Rattle.int_sets.specs.Gathering.{Keeps, MakesRow, Stops}
 use Rattle.int_rows.specs.declared.row.Row.{Row}
 
 -- ---- keeping one more row
@@ -62,6 +66,10 @@ module _ (all left now later : List Made) (parts : left ≡ now ++ later) (many 
   pub progress-large : list_all made_small now ≡ false → Progress all left many kept many' kept' → list_all made_small all ≡ false
   progress-large g h = let p = at_parts h in sym (rw (all-append now later, g) at p.small)
 
+  pub progress-stops : (x : ℕ) (e : Stop Excess) → Stops x now e → Progress all left many kept many' kept' → Stops x all e
+  progress-stops x (Refused l) g h = (progress-large g.0 h, g.1)
+  progress-stops x NoMemory g h = tt
+
 module _ (all left : List Made) (step : Made) (later : List Made) (parts : left ≡ step ∷ later) (many : Bool) (kept : List Row) (many' : Bool) (kept' : List Row) where
   -- one step is made, and its row is kept
   pub progress-one : (many'' : Bool) (kept'' : List Row) (row : Row) → (made_small step ≡ true) × (row ≡ outcome step)
@@ -70,9 +78,6 @@ module _ (all left : List Made) (step : Made) (later : List Made) (parts : left 
   progress-one many'' kept'' row m more h =
       progress-more all left (step ∷ []) later parts many kept many' kept' many'' kept''
       (rw m.0 refl, λ before k. subst (λ (r : Row). Keeps (before ++ r ∷ []) many'' kept'') m.1 (more before k)) h
-
-  pub progress-one_large : made_small step ≡ false → Progress all left many kept many' kept' → list_all made_small all ≡ false
-  progress-one_large e h = progress-large all left (step ∷ []) later parts many kept many' kept' (rw e refl) h
 
 pub progress-skip : (all left later : List Made) → left ≡ later → (many : Bool) (kept : List Row) (many' : Bool) (kept' : List Row) → Progress all left many kept many' kept' → Progress all later many kept many' kept'
 progress-skip all left later e many kept many' kept' h = subst (λ (l : List Made). Progress all l many kept many' kept') e h
@@ -88,9 +93,9 @@ unfolding made_small outcome
 stays-made r row e = (refl, e)
 
 -- ---- the steps that are left at position i
-module _ (rows : List Row) (i : ℕ) (r : Row) (l : i < length rows) (is : r ≡ get_or rows i r) where
+module _ (rows : List Row) (i : ℕ) (r : Row) (is : slice_get rows i ≡ Some r) where
   pub here : drop i rows ≡ r ∷ drop (i + 1) rows
-  here = rw (add-one i) (drop-cons rows i r l ∙ ap (λ (a : Row). a ∷ drop (suc i) rows) (sym is))
+  here = rw (add-one i) (drop-cons rows i r (slice_get_within rows i r is) ∙ ap (λ (a : Row). a ∷ drop (suc i) rows) (get_or_from_slice_get rows i r r is))
 
   pub map-here : (g : Row → Made) → map g (drop i rows) ≡ g r ∷ map g (drop (i + 1) rows)
   map-here g = ap (map g) here
@@ -119,3 +124,20 @@ module _ (rows : List Row) (i : ℕ) (l : length rows ≤ i) where
 
   pub pairs-end : (t : Row → Bool) (g : Row → List Made) → flat_map g (filter t (drop i rows)) ≡ []
   pairs-end t g = rw none refl
+
+-- ---- one step alone
+pub one-kept : (m : Made) (row : Row) (many : Bool) (kept : List Row) (many' : Bool) (kept' : List Row) → (made_small m ≡ true) × (row ≡ outcome m)
+    → ((before : List Row) → Keeps before many kept → Keeps (before ++ row ∷ []) many' kept')
+    → (list_all made_small (m ∷ []) ≡ true) × ((before : List Row) → Keeps before many kept → Keeps (before ++ map outcome (m ∷ [])) many' kept')
+one-kept m row many kept many' kept' e more = (rw e.0 refl, λ before k. subst (λ (r : Row). Keeps (before ++ r ∷ []) many' kept') e.1 (more before k))
+
+pub one-stops : (x : ℕ) (m : Made) (e : Stop Excess) → MakesRow x m (Err e) → Stops x (m ∷ []) e
+one-stops x m (Refused l) h = (rw h.0 refl, h.1)
+one-stops x m NoMemory h = tt
+
+-- the same where a loop ends before the last row
+pub inside-take : (rows : List Row) (i n : ℕ) (r : Row) → i < n → slice_get rows i ≡ Some r → slice_get (take n rows) i ≡ Some r
+inside-take rows i zero r l e = absurd (omega arith)
+inside-take [] i (suc n) r l e = absurd cc
+inside-take (s ∷ rows) zero (suc n) r l e = e
+inside-take (s ∷ rows) (suc i) (suc n) r l e = inside-take rows i n r (omega arith) e

@@ -1,7 +1,8 @@
 -- The steps of a loop that puts a form in place of a variable in each row.
-use Rattle.std.proofs.Common.{◌≡◌, ℕ, suc, ◌+◌, ◌<◌, ◌≤◌, List, ◌++◌, ◌∷◌, [], length, map, drop, get_or, drop-cons, add-one, append_assoc, append-nil, sym, ap, ◌∙◌}
-use Rattle.std.specs.Prelude.{Some, None}
+use Rattle.std.proofs.Common.{◌≡◌, ℕ, suc, ◌+◌, ◌≤◌, List, ◌++◌, ◌∷◌, [], length, map, drop, drop-cons, add-one, append_assoc, append-nil, sym, ap, ◌∙◌}
+use Rattle.std.specs.Prelude.{Some, None, slice_get}
 use Rattle.std.proofs.lemmas.List.{drop_all}
+use Rattle.std.proofs.lemmas.Option.{slice_get_within, get_or_from_slice_get}
 use Rattle.int_rows.specs.Systems.{replaced, replaced_past, first_of}
 use Rattle.int_rows.specs.declared.row.Aff.{Aff}
 use Rattle.int_rows.specs.declared.row.Row.{Row}
@@ -11,9 +12,9 @@ pub record Replaced (x : ℕ) (by : Aff) (rows : List Row) (i : ℕ) (new : List
   pub past : first_of (map (replaced_past x by) (drop i rows)) ≡ first_of (map (replaced_past x by) rows)
   pub made : new ++ map (replaced x by) (drop i rows) ≡ map (replaced x by) rows
 
-module _ (x : ℕ) (by : Aff) (rows : List Row) (i : ℕ) (new : List Row) (r : Row) (l : i < length rows) (is : r ≡ get_or rows i r) where
+module _ (x : ℕ) (by : Aff) (rows : List Row) (i : ℕ) (new : List Row) (r : Row) (is : slice_get rows i ≡ Some r) where
   next : drop i rows ≡ r ∷ drop (suc i) rows
-  next = drop-cons rows i r l ∙ ap (λ (a : Row). a ∷ drop (suc i) rows) (sym is)
+  next = drop-cons rows i r (slice_get_within rows i r is) ∙ ap (λ (a : Row). a ∷ drop (suc i) rows) (get_or_from_slice_get rows i r r is)
 
   pub replaced-more : (row : Row) → (replaced_past x by r ≡ None) × (row ≡ replaced x by r) → Replaced x by rows i new → Replaced x by rows (i + 1) (new ++ row ∷ [])
   replaced-more row e h =

@@ -1,15 +1,14 @@
 -- What the steps of an elimination and of a substitution answer.
 use Rattle.std.specs.Prelude.{◌≡◌, ℕ, ◌≤◌, ◌<◌, Bool, true, false, List, ◌++◌, map, length, Option, Some, None, Result, Ok, Err}
 use Rattle.std.specs.List.{list_all}
-use Rattle.std.specs.declared.alloc.Global.{Global}
-use Rattle.std.specs.declared.vec.Vec.{Vec}
 use Rattle.chill_base.specs.declared.faults.Stop.{Stop}
 use Rattle.chill_base.specs.declared.faults.Stop.TheVariants.{Refused, NoMemory}
 use Rattle.int_rows.specs.Elimination.{Made, made_small, outcome, merged}
 use Rattle.int_rows.specs.declared.row.Row.{Row}
 use Rattle.int_rows.specs.declared.row.Excess.{Excess}
 use Rattle.int_rows.specs.declared.row.Excess.TheVariants.{Large}
-use Rattle.int_sets.specs.declared.keep.Kept.{Kept}
+use Rattle.int_rows.specs.Systems.{Rows}
+use Rattle.int_sets.specs.KeptRows.{KeptRows}
 
 -- what is wanted where no number passes the limit, or the position of the first that does
 abbrev pub Combines : {A : Type 0} → Option ℕ → A → Result A (Stop ℕ) → Type 0
@@ -23,8 +22,8 @@ PassesAt past (Refused e) = (var : ℕ) × (past ≡ Some var) × (e ≡ Large v
 PassesAt past NoMemory = Unit {0}
 
 -- the rows that are wanted where no number passes the limit, or the first position of one that does
-abbrev pub Replaces : Option ℕ → List Row → Result (Vec Row Global) (Stop Excess) → Type 0
-Replaces past wanted (Ok rows) = (past ≡ None) × (rows.items ≡ wanted)
+abbrev pub Replaces : Option ℕ → Rows → Result Rows (Stop Excess) → Type 0
+Replaces past wanted (Ok rows) = (past ≡ None) × (rows ≡ wanted)
 Replaces past wanted (Err e) = PassesAt past e
 
 -- the row that a step makes, or `Large` where a number of it passes the limit
@@ -49,6 +48,6 @@ Gathers x steps many kept many' kept' (Ok u) = (list_all made_small steps ≡ tr
 Gathers x steps many kept many' kept' (Err e) = Stops x steps e
 
 -- the same from nothing
-abbrev pub GathersAll : ℕ → List Made → Result Kept (Stop Excess) → Type 0
-GathersAll x steps (Ok kept) = (list_all made_small steps ≡ true) × Keeps (map outcome steps) kept.many kept.rows.items
-GathersAll x steps (Err e) = Stops x steps e
+abbrev pub GathersAll : ℕ → ℕ → List Made → Result KeptRows (Stop Excess) → Type 0
+GathersAll v x steps (Ok k) = (list_all made_small steps ≡ true) × Keeps (map outcome steps) k.many k.kept.rows × (k.kept.vars ≡ v)
+GathersAll v x steps (Err e) = Stops x steps e

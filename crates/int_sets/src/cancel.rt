@@ -5,10 +5,12 @@ ghost use Rattle.int_rows.specs.Gcd.{gcd as gcd_of};
 ghost use Rattle.int_rows.specs.Rows.{coef_at, numbers};
 ghost use Rattle.int_rows.specs.Elimination.{is_small, canceled};
 ghost use Rattle.int_sets.specs.Gathering.{MakesRow};
+ghost use Rattle.int_sets.specs.Views.{form_of, row_of};
 
 use crate::combine::combine;
 use crate::numbers::gcd;
 use crate::reduce::reduced;
+use crate::views::RowRef;
 use chill_base::Stop;
 use int_rows::{Excess, Row};
 use std::alloc::Global;
@@ -65,16 +67,21 @@ fn factors(a: i128, c: i128) -> (i128, i128)
 }
 
 /// The row in which the variable at `var` falls out of the first row by the second, which holds it, or `Large`.
-pub fn cancel(alloc: Global, var: usize, first: &Row, second: &Row) -> Result<Row, Stop<Excess>>
-    requires first_var { var < length first.now.form.coefs }
-    requires width { length first.now.form.coefs ≡ length second.now.form.coefs }
-    requires first_small { IsTrue (list_all is_small (numbers first.now.form)) }
-    requires second_small { IsTrue (list_all is_small (numbers second.now.form)) }
-    requires held { coef_at var second.now ≢ pos 0 }
-    ensures { MakesRow var (canceled var first.now second.now) result }
+pub fn cancel(
+    alloc: Global,
+    var: usize,
+    first: &RowRef,
+    second: &RowRef,
+) -> Result<Row, Stop<Excess>>
+    requires first_var { var < length first.now.form.coefs.now }
+    requires width { length first.now.form.coefs.now ≡ length second.now.form.coefs.now }
+    requires first_small { IsTrue (list_all is_small (numbers (form_of first.now.form))) }
+    requires second_small { IsTrue (list_all is_small (numbers (form_of second.now.form))) }
+    requires held { coef_at var (row_of second.now) ≢ pos 0 }
+    ensures { MakesRow var (canceled var (row_of first.now) (row_of second.now)) result }
 {
-    let a = first.form.coefs.as_slice()[var];
-    let c = second.form.coefs.as_slice()[var];
+    let a = first.form.coefs[var];
+    let c = second.form.coefs[var];
     let (m, n) = factors(a, c);
     match combine(alloc, m, &first.form, n, &second.form) {
         Ok(form) => Ok(reduced(

@@ -2,9 +2,11 @@
 ghost use Rattle.std.specs.Prelude.{◌≡◌, ◌+ℤ◌, ◌*ℤ◌, cond, length};
 ghost use Rattle.int_rows.specs.Elimination.{sum_small, combination, first_past};
 ghost use Rattle.int_sets.specs.Gathering.{Combines};
+ghost use Rattle.int_sets.specs.Views.{form_of};
 
-use crate::numbers::{plus, times};
-use chill_base::{List, Stop};
+use crate::numbers::{plus, room, times};
+use crate::views::AffRef;
+use chill_base::Stop;
 use int_rows::Aff;
 use std::alloc::Global;
 
@@ -21,16 +23,16 @@ fn combine_numbers(m: i128, a: i128, n: i128, b: i128) -> Option<i128>
 pub fn combine(
     alloc: Global,
     m: i128,
-    first: &Aff,
+    first: &AffRef,
     n: i128,
-    second: &Aff,
+    second: &AffRef,
 ) -> Result<Aff, Stop<usize>>
-    requires { length first.now.coefs ≡ length second.now.coefs }
-    ensures { Combines (first_past m first.now n second.now) (combination m first.now n second.now) result }
+    requires { length first.now.coefs.now ≡ length second.now.coefs.now }
+    ensures { Combines (first_past m (form_of first.now) n (form_of second.now)) (combination m (form_of first.now) n (form_of second.now)) result }
 {
-    let left = first.coefs.as_slice();
-    let right = second.coefs.as_slice();
-    let mut coefs = List::new(alloc);
+    let left = first.coefs;
+    let right = second.coefs;
+    let mut coefs = room(alloc, left.len())?;
     for i in 0..left.len() {
         match combine_numbers(m, left[i], n, right[i]) {
             Some(number) => coefs.push(number)?,

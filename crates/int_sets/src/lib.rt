@@ -3,16 +3,18 @@
 
 mod cancel;
 mod combine;
-mod copy;
 mod decide;
 mod gather;
 mod keep;
+mod key;
 mod numbers;
+mod packed;
 mod reduce;
 mod replace;
 mod signs;
 mod system;
 #[cfg(test)]
 mod tests;
+mod views;
 
 pub use system::{SetFault, System};

@@ -1,8 +1,11 @@
 // Numbers of set work: their limit, and products, sums and divisors.
-ghost use Rattle.std.specs.Prelude.{◌≡◌, negsuc, ◌+ℤ◌, ◌-ℤ◌, ◌*ℤ◌, ◌++◌, ◌∷◌, [], cond, not};
+ghost use Rattle.std.specs.Prelude.{◌≡◌, negsuc, ◌+ℤ◌, ◌-ℤ◌, ◌*ℤ◌, ◌++◌, ◌∷◌, [], cond, not, IfOk};
 ghost use Rattle.std.specs.List.{position_from};
-ghost use Rattle.int_rows.specs.Gcd.{gcd as gcd_of};
+ghost use Rattle.int_rows.specs.Gcd.{gcd as gcd_of, gcd_of as gcd_of_all};
 ghost use Rattle.int_rows.specs.Elimination.{is_small};
+
+use chill_base::{List, NoMemory};
+use std::alloc::Global;
 
 /// The greatest size of a number of set work.
 const LIMIT: u128 = 1 << 126;
@@ -69,4 +72,25 @@ pub fn gcd(a: u128, b: u128) -> u128
         y = rest;
     }
     x
+}
+
+/// The greatest common divisor of all numbers.
+pub fn gcd_all(numbers: &[i128]) -> u128
+    ensures { result ≡ gcd_of_all numbers.now }
+{
+    let mut found = 0u128;
+    for z in numbers {
+        if found == 1 {
+            return 1;
+        }
+        found = gcd(found, z.unsigned_abs());
+    }
+    found
+}
+
+/// An empty list with room for so many numbers.
+pub fn room(alloc: Global, count: usize) -> Result<List<i128>, NoMemory>
+    ensures { IfOk result (λ l. l ≡ []) }
+{
+    Ok(List::from_vec(Vec::with_capacity(alloc, count)?))
 }

@@ -5,8 +5,8 @@ ghost use Rattle.int_rows.specs.Gcd.{gcd_of};
 ghost use Rattle.int_rows.specs.Rows.{numbers};
 ghost use Rattle.int_rows.specs.Elimination.{is_small, reduced as reduced_of};
 
-use crate::numbers::gcd;
-use chill_base::{List, NoMemory};
+use crate::numbers::{gcd, gcd_all, room};
+use chill_base::NoMemory;
 use int_rows::{Aff, Row};
 use std::alloc::Global;
 
@@ -14,11 +14,7 @@ use std::alloc::Global;
 fn form_gcd(form: &Aff) -> u128
     ensures { result ≡ gcd_of (numbers form.now) }
 {
-    let mut found = 0u128;
-    for z in form.coefs.as_slice() {
-        found = gcd(found, z.unsigned_abs());
-    }
-    gcd(found, form.constant.unsigned_abs())
+    gcd(gcd_all(form.coefs.as_slice()), form.constant.unsigned_abs())
 }
 
 /// The row with each number divided by `by`.
@@ -26,7 +22,7 @@ fn divided(alloc: Global, row: &Row, by: i128) -> Result<Row, NoMemory>
     requires { pos 0 <ℤ by }
     ensures { IfOk result (λ r. r ≡ record { equal = row.now.equal; form = record { coefs = map (λ z. int_div z by) row.now.form.coefs; constant = int_div row.now.form.constant by } }) }
 {
-    let mut coefs = List::new(alloc);
+    let mut coefs = room(alloc, row.form.coefs.len())?;
     for z in row.form.coefs.as_slice() {
         coefs.push(*z / by)?;
     }
@@ -45,7 +41,7 @@ pub fn reduced(alloc: Global, row: Row) -> Result<Row, NoMemory>
     ensures { IfOk result (λ r. r ≡ reduced_of row) }
 {
     let by = form_gcd(&row.form);
-    if by == 0 {
+    if by <= 1 {
         return Ok(row);
     }
     divided(alloc, &row, by as i128)

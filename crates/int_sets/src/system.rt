@@ -1,5 +1,5 @@
 // A system of rows.
-ghost use Rattle.std.specs.Prelude.{◌≡◌, [], pos, length, ◌<◌, IsTrue, IsFalse, slice_get, IfSome, IfOk, filter, not};
+ghost use Rattle.std.specs.Prelude.{◌≡◌, [], pos, length, ◌<◌, IsTrue, IsFalse, slice_get, IfSome, IfOk, OnOk, filter, not};
 ghost use Rattle.std.specs.List.{list_any};
 ghost use Rattle.int_rows.specs.Rows.{coef_at};
 ghost use Rattle.int_rows.specs.Elimination.{is_small};
@@ -7,12 +7,13 @@ ghost use Rattle.int_rows.specs.Exclusion.{is_plain as is_plain_of, is_impossibl
 ghost use Rattle.int_rows.specs.Systems.{with_rows, pushed, substituted, eliminated, excluded as excluded_of, implied as implied_of};
 ghost use Rattle.int_sets.specs.Answers.{Answers, Decides};
 
-use crate::copy::copy_rows;
-use crate::decide::{any_impossible, is_plain, negation};
+use crate::decide::{any_impossible, negation, without_plain};
 use crate::gather::gather;
 use crate::keep::MOST_ROWS;
 use crate::numbers::{complement, first_large};
+use crate::packed::PackedRows;
 use crate::replace::replaced_rows;
+use crate::views::row_ref;
 use chill_base::{NoMemory, Stop};
 use int_rows::{Aff, Excess, Row};
 use std::alloc::Global;
@@ -26,8 +27,7 @@ pub type SetFault = Stop<Excess>;
 #[derive(Drop)]
 pub struct System {
     alloc: Global,
-    vars: usize,
-    list: Vec<Row>,
+    list: PackedRows,
 }
 
 impl Model for System {
@@ -35,9 +35,9 @@ impl Model for System {
 
     ghost Value = { Rows };
 
-    ghost view = { λ s. record { vars = s.vars; rows = s.list.items } };
+    ghost view = { λ s. s.list };
 
-    ghost invariant = { λ s. IsSystem (record { vars = s.vars; rows = s.list.items }) };
+    ghost invariant = { λ s. IsSystem s.list };
 }
 
 impl System {
@@ -47,8 +47,7 @@ impl System {
     {
         System {
             alloc,
-            vars,
-            list: Vec::new(alloc),
+            list: PackedRows::new(alloc, vars),
         }
     }
 
@@ -58,8 +57,7 @@ impl System {
     {
         Ok(System {
             alloc,
-            vars: self.vars,
-            list: copy_rows(alloc, &self.list)?,
+            list: self.list.copy(alloc)?,
         })
     }
 
@@ -73,9 +71,11 @@ impl System {
             return Err(Stop::Refused(Excess::Large { var }));
         }
         if self.list.len() >= MOST_ROWS {
-            return Err(Stop::Refused(Excess::Many { var: self.vars }));
+            return Err(Stop::Refused(Excess::Many {
+                var: self.list.vars(),
+            }));
         }
-        self.list.push(row)?;
+        self.list.push(&row_ref(&row))?;
         Ok(())
     }
 
@@ -96,11 +96,11 @@ impl System {
         ensures answer { Answers result self.old self.new (eliminated var self.old) }
         ensures vars { self.new.vars ≡ self.old.vars }
     {
-        let kept = gather(self.alloc, self.vars, var, &self.list)?;
-        if kept.many {
+        let kept = gather(self.alloc, var, &self.list)?;
+        if kept.is_many() {
             return Err(Stop::Refused(Excess::Many { var }));
         }
-        self.list = kept.rows;
+        self.list = kept.into_rows();
         Ok(())
     }
 
@@ -109,12 +109,12 @@ impl System {
         ensures { Decides result (excluded_of self.now) }
     {
         let mut system = self.copy(alloc)?;
-        let mut left = self.vars;
+        let mut left = self.vars();
         while left > 0 {
             if system.is_impossible() {
                 return Ok(true);
             }
-            system.drop_plain();
+            system.drop_plain()?;
             left -= 1;
             system.eliminate(left)?;
         }
@@ -140,7 +140,7 @@ impl System {
     pub fn vars(&self) -> usize
         ensures { result ≡ self.now.vars }
     {
-        self.vars
+        self.list.vars()
     }
 
     /// How many rows there are.
@@ -155,7 +155,7 @@ impl System {
         requires { row < length self.now.rows }
         ensures { IfSome (slice_get self.now.rows row) (λ r. result ≡ r.equal) }
     {
-        self.list[row].equal
+        self.list.row(row).equal
     }
 
     /// The coefficient of a variable in a row.
@@ -165,9 +165,7 @@ impl System {
         ensures value { IfSome (slice_get self.now.rows row) (λ r. result ≡ coef_at var r) }
         ensures small { IsTrue (is_small result) }
     {
-        let _inside = &self.list;
-        let found = &self.list[row];
-        found.form.coefs.as_slice()[var]
+        self.list.row(row).form.coefs[var]
     }
 
     /// The constant of a row.
@@ -176,8 +174,7 @@ impl System {
         ensures value { IfSome (slice_get self.now.rows row) (λ r. result ≡ r.form.constant) }
         ensures small { IsTrue (is_small result) }
     {
-        let _inside = &self.list;
-        self.list[row].form.constant
+        self.list.row(row).form.constant
     }
 
     // Whether a row shows that there is no integer point.
@@ -188,9 +185,10 @@ impl System {
     }
 
     // Drops the rows without variables.
-    fn drop_plain(&mut self)
-        ensures { self.new ≡ with_rows self.old (filter (λ r. not (is_plain_of r)) self.old.rows) }
+    fn drop_plain(&mut self) -> Result<(), NoMemory>
+        ensures { OnOk result (self.new ≡ with_rows self.old (filter (λ r. not (is_plain_of r)) self.old.rows)) }
     {
-        self.list.retain(|row| !is_plain(row));
+        self.list = without_plain(self.alloc, &self.list)?;
+        Ok(())
     }
 }

@@ -9,5 +9,5 @@ within test xs = prefix_len-le-length (λ x. not (test x)) xs
 
 pub gather_pairs-requires-clause-none : goal.gather_pairs-requires-clause-none
 gather_pairs-requires-clause-none c =
-    let k = within (is_equality_with c.args.var) c.args.rows.now in
+    let k = within (is_equality_with c.args.var) c.args.rows.now.rows in
     omega (arith, k)

@@ -1,7 +1,7 @@
-use Rattle.std.proofs.Common.{◌≡◌, ℤ, ℕ, ◌^◌, pos, ◌≤◌, arith, ap, sym, refl, ◌∙◌, subst, cond, true, false, map}
+use Rattle.std.proofs.Common.{◌≡◌, ℤ, ℕ, ◌^◌, pos, ◌≤◌, arith, ap, sym, ◌∙◌, subst, cond, false, map}
 use Rattle.std.specs.Prelude.{int_div, IfOk, Result, nat_le}
 use Rattle.std.proofs.lemmas.Int.{ints, to_z_pos, fits_signed_from_abs}
-use Rattle.std.proofs.lemmas.Bool.{le-leb, lt-leb}
+use Rattle.std.proofs.lemmas.Bool.{lt-leb}
 use mir.Val.{to_z}
 use mir.Syntax.{w128}
 use Rattle.int_rows.specs.declared.row.Row.{Row}
@@ -10,19 +10,17 @@ use Rattle.int_rows.specs.Gcd.{gcd_of}
 use Rattle.int_rows.specs.Rows.{numbers}
 use Rattle.int_rows.specs.Elimination.{reduced, divided_by}
 use Rattle.int_rows.proofs.GcdLaws.{gcd_of-le}
+use Rattle.int_sets.proofs.Dividing.{divided-few}
 use Rattle.int_sets.proofs.reduce.reduced.Goals as goal
 
-at_zero : (g : ℕ) → g ≡ 0 → nat_le g 0 ≡ true
-at_zero g e = le-leb g 0 (omega arith)
-
-above_zero : (g : ℕ) → (g ≡ 0 → ⊥) → nat_le g 0 ≡ false
+above_zero : (g : ℕ) → 2 ≤ g → nat_le g 0 ≡ false
 above_zero g e = lt-leb g 0 (omega arith)
 
-pub returns-then-by-eq0 : goal.returns-then-by-eq0
+pub returns-then-by-le1 : goal.returns-then-by-le1
 unfolding reduced
-returns-then-by-eq0 c =
-    let zero : gcd_of (numbers c.args.row.form) ≡ 0 = sym c.form_gcd-by.ensures ∙ c.if-by-eq0.true in
-    rw (at_zero _ zero) refl
+returns-then-by-le1 c =
+    let few : gcd_of (numbers c.args.row.form) ≤ 1 = rw c.form_gcd-by.ensures at c.if-by-le1.true in
+    sym (divided-few (gcd_of (numbers c.args.row.form)) c.args.row few)
 
 pub overflow_cast-by : goal.overflow_cast-by
 overflow_cast-by c =
@@ -35,7 +33,7 @@ as_int n g e h = to_z_pos w128 n (omega arith) ∙ ap pos e
 pub divided-requires : goal.divided-requires
 divided-requires c =
     rw (as_int _ _ c.form_gcd-by.ensures (gcd_of-le (numbers c.args.row.form) (2 ^ 126) c.requires))
-    (let k : gcd_of (numbers c.args.row.form) ≡ 0 → ⊥ = (λ h. c.if-by-eq0.false (c.form_gcd-by.ensures ∙ h)) in omega (arith, ints))
+    (let k : 2 ≤ gcd_of (numbers c.args.row.form) = rw c.form_gcd-by.ensures at c.if-by-le1.false in omega (arith, ints))
 
 finish : (g : ℕ) (by : ℤ) (row : Row) (r : Result Row NoMemory) → by ≡ pos g → nat_le g 0 ≡ false
     → IfOk r (λ x. x ≡ record { equal = row.equal; form = record { coefs = map (λ z. int_div z by) row.form.coefs; constant = int_div row.form.constant by } })
@@ -49,5 +47,5 @@ unfolding reduced
 returns c =
     finish (gcd_of (numbers c.args.row.form)) _ c.args.row c.divided.result
     (as_int _ _ c.form_gcd-by.ensures (gcd_of-le (numbers c.args.row.form) (2 ^ 126) c.requires))
-    (above_zero _ (λ h. c.if-by-eq0.false (c.form_gcd-by.ensures ∙ h)))
+    (above_zero _ (rw c.form_gcd-by.ensures at c.if-by-le1.false))
     c.divided.ensures
