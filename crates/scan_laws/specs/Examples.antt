@@ -14,7 +14,8 @@ use Rattle.nest_tree.specs.declared.kernel.Nest.{Nest}
 use Rattle.nest_tree.specs.declared.kernel.Term.{Term}
 use Rattle.nest_tree.specs.declared.body.Body.TheVariants.{At as Read}
 use Rattle.nest_tree.specs.declared.form.Form.TheVariants.{Other}
-use Rattle.nest_tree.specs.Forms.{value}
+use Rattle.nest_tree.specs.Lists.{IsIn}
+use Rattle.nest_tree.specs.Forms.{value, MeetsRow}
 use Rattle.nest_tree.specs.Terms.{Input, IsCut, IsDirect, with_terms}
 use Rattle.nest_tree.specs.Loops.{Levels, Loops, performed}
 use Rattle.nest_tree.specs.Kernels.{point, IsKernelList}
@@ -67,6 +68,12 @@ abbrev pub WorkedPrinting : Type 0
 WorkedPrinting =
     (k : ℕ) → k ≤ greatest → (s : Scanned (copy_input k)) × (s.nest ≡ copy_nest) × IsPrinted (maker (copy_input k) (λ group e. true)) (tree_of copy_loop (scene k)) (slots (s ∷ [])) 0 []
     × HasKernelList (copy_input k) (copy_nest ∷ []) copy_loop (scene k)
+
+-- its two rows hold at a value exactly where that is at least 0 and below k
+abbrev pub WorkedRows : Type 0
+WorkedRows =
+    (k : ℕ) (v : ℤ) → ((r : Row) → IsIn r (from_zero ∷ below_n ∷ []) → IsDirect 2 1 [] r.form)
+    × (((r : Row) → IsIn r (from_zero ∷ below_n ∷ []) → MeetsRow (point (copy_input k) copy_nest (v ∷ [])) r) ↔ ((pos 0 ≤ℤ v) × (v <ℤ pos k)))
 
 -- a maker and loops that meet what is asked of a scan, for the kernel of that loop
 abbrev pub WorkedScan : Type 0
