@@ -43,7 +43,7 @@ use Rattle.scan_laws.specs.Examples.{from_zero, below_n, copy_nest, copy_input, 
 use Rattle.scan_laws.proofs.Bounds.{direct_rows}
 use Rattle.scan_laws.proofs.Fronts.{front-For, front-Assign}
 use Rattle.scan_laws.proofs.Printing.{printed-fine}
-use Rattle.scan_laws.proofs.Scanned.{scanned_list}
+use Rattle.scan_laws.proofs.Scanned.{sound_bounds, scanned_list}
 
 -- ---- what the loop is, and what its parts give
 abbrev copying : Scene → Tree
@@ -51,7 +51,7 @@ copying s =
     turns (λ e. value_of (Const (pos 0)) (bind_all [] e s).sight) (λ e. value_of (Var n) (bind_all [] e s).sight)
     (step (λ e. assigned (at b (Var i)) Write (Load (at c (Var i))) (bind_all (i ∷ []) e s)) end) end
 
-tree_is : (s : Scene) → tree_of copy_loop s ≡ copying s
+pub tree_is : (s : Scene) → tree_of copy_loop s ≡ copying s
 tree_is s =
     front-For s [] end i (Const (pos 0)) (Var n) (Assign (at b (Var i)) Write (Load (at c (Var i))) ∷ [])
     ∙ ap (λ (t : Tree). turns (λ e. value_of (Const (pos 0)) (bind_all [] e s).sight) (λ e. value_of (Var n) (bind_all [] e s).sight) t end)
@@ -60,11 +60,11 @@ tree_is s =
 small-number : (k : ℕ) → k ≤ greatest → judged (plain (pos k)) ≡ Ok (pos k)
 small-number k h = let t : nat_le k greatest ≡ true = grind (arith, h) in rw t refl
 
-value-Const : (s : Sight) → value_of (Const (pos 0)) s ≡ Ok (pos 0)
+pub value-Const : (s : Sight) → value_of (Const (pos 0)) s ≡ Ok (pos 0)
 value-Const s = ap judged_answer (measure-Const (pos 0) s) ∙ small-number 0 (omega arith)
 
 module _ (k : ℕ) (small : k ≤ greatest) where
-  value-n : value_of (Var n) (scene k).sight ≡ Ok (pos k)
+  pub value-n : value_of (Var n) (scene k).sight ≡ Ok (pos k)
   value-n = ap judged_answer (measure-Var n (scene k).sight) ∙ small-number k small
 
   module _ (v : ℕ) (below : v < k) where
@@ -88,13 +88,13 @@ module _ (k : ℕ) (small : k ≤ greatest) where
         ap (λ (a : Answer (List ℤ)). a >>= (λ is. let y : Spot = record { array = x; at = is } in (if inner.inside y then Ok y else Err (Outside x)))) at-i
         ∙ ap (λ (t : Bool). let y : Spot = record { array = x; at = pos v ∷ pos 0 ∷ pos 0 ∷ [] } in (if t then Ok y else Err (Outside x))) is_in
 
-    copied_step : assigned (at b (Var i)) Write (Load (at c (Var i))) inner ≡ Ok ((copied v).step)
+    pub copied_step : assigned (at b (Var i)) Write (Load (at c (Var i))) inner ≡ Ok ((copied v).step)
     copied_step =
         ap (λ (g : Answer Ground). g >>= (λ w. spot (at b (Var i)) inner >>= (λ x. Ok (record { target = x; how = Write; value = w })))) (ground-At (at c (Var i)) inner ∙ ap (λ (a : Answer Spot). a >>= (λ x. Ok (load x))) (spot-is c))
         ∙ ap (λ (a : Answer Spot). a >>= (λ x. Ok (record { target = x; how = Write; value = load (record { array = c; at = pos v ∷ pos 0 ∷ pos 0 ∷ [] }) }))) (spot-is b)
 
   -- the kernel's step is the same
-  kernel_step : (v : ℕ) → act copy_nest (point (copy_input k) copy_nest (pos v ∷ [])) ≡ (copied v).step
+  pub kernel_step : (v : ℕ) → act copy_nest (point (copy_input k) copy_nest (pos v ∷ [])) ≡ (copied v).step
   kernel_step v =
       let q : List ℤ = pos k ∷ pos v ∷ [] in
       let f : value q (record { coefs = pos 0 ∷ pos 1 ∷ []; constant = pos 0 }) ≡ pos v = omega (arith, ints) in
@@ -223,9 +223,9 @@ module _ (k : ℕ) (small : k ≤ greatest) where
 pub worked_printing : WorkedPrinting
 unfolding copying_statement
 worked_printing k small = (
-  copying_statement k,
-  refl,
-  copy_printed k small,
+  λ group s e v vs ok a d h. refl,
+  sound_bounds (copy_input k) (λ group e. true) (λ group s e v vs ok a d h. refl),
+  (copying_statement k, refl, copy_printed k small),
   scanned_list (copy_input k) (copying_statement k ∷ []) (λ group e. true) copy_loop (scene k) (λ group s e v vs ok a d h. refl) (copy_printed k small),
 )
 

@@ -1,5 +1,5 @@
 // Worked cases of the laws of runs and scans: something meets each of their premises.
-ghost use Rattle.scan_laws.specs.Examples.{WorkedExecutor, WorkedPrinting, WorkedScan, WorkedBounds, WorkedRows, WorkedSize};
+ghost use Rattle.scan_laws.specs.Examples.{WorkedExecutor, WorkedPrinting, WorkedAlone, WorkedScan, WorkedBounds, WorkedRows, WorkedSize};
 
 /// A loop that copies two cells has no fault and performs the two copies.
 pub fn worked_executor()
@@ -9,6 +9,11 @@ pub fn worked_executor()
 /// A loop that copies an array is printed for its kernel.
 pub fn worked_printing()
     ensures { WorkedPrinting }
+{}
+
+/// That loop, whose assignment needs no test.
+pub fn worked_alone()
+    ensures { WorkedAlone }
 {}
 
 /// Loops that scan the kernel of that loop.

@@ -1,19 +1,13 @@
 -- The stencil's list has exactly the four assignments.
 use Rattle.std.proofs.Common.{◌≡◌, ◌⊎◌, inl, inr, ℕ, suc, ◌+◌, List, [], ◌∷◌, refl, sym, ◌∙◌, ap, subst, arith, ℤ, pos, negsuc, ◌+ℤ◌, ◌≤ℤ◌}
-use Rattle.std.specs.Prelude.{None, false}
 use Rattle.std.proofs.lemmas.Int.{ints}
-use Rattle.int_rows.specs.declared.row.Aff.{Aff}
 use Rattle.c_tree.specs.declared.statement.How.TheVariants.{Write}
 use Rattle.nest_tree.specs.declared.kernel.Nest.{Nest}
 use Rattle.nest_tree.specs.declared.kernel.KernelRow.{KernelRow}
-use Rattle.nest_tree.specs.declared.body.Access.{Access}
-use Rattle.nest_tree.specs.declared.body.Body.TheVariants.{At}
-use Rattle.nest_tree.specs.declared.form.Form.TheVariants.{Other}
 use Rattle.nest_tree.specs.Lists.{IsIn, IsStrictlySorted}
 use Rattle.nest_tree.specs.Places.{Item, Precedes}
 use Rattle.nest_tree.specs.Forms.{coef}
-use Rattle.nest_tree.specs.Terms.{Input}
-use Rattle.nest_tree.specs.Kernels.{point, item_at, IsMet, IsPointOf, IsItemOf, IsKernelList}
+use Rattle.nest_tree.specs.Kernels.{point, item_at, IsMet, IsPointOf, IsItemOf}
 use Rattle.c_meaning.specs.Ground.{Ground, load, Step}
 use Rattle.nest_laws.specs.Acts.{act, spot}
 use Rattle.nest_laws.proofs.Acts.{ground-At}

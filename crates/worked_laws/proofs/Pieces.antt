@@ -1,14 +1,11 @@
 -- The pieces of commands.
-use Rattle.std.proofs.Common.{◌≡◌, ◌⊎◌, inl, inr, ℕ, zero, suc, ◌<◌, ◌≤◌, List, [], ◌∷◌, length, map, refl, sym, ◌∙◌, ap, arith, ℤ, pos}
-use Rattle.std.specs.Prelude.{None}
+use Rattle.std.proofs.Common.{◌≡◌, ◌⊎◌, inl, inr, ℕ, zero, suc, ◌<◌, ◌≤◌, List, [], ◌∷◌, map, refl, sym, ◌∙◌, ap, arith, pos}
 use Rattle.nest_tree.specs.declared.body.Body.{Body}
 use Rattle.nest_tree.specs.declared.body.Body.TheVariants.{Const, outs-Const}
 use Rattle.nest_tree.specs.declared.kernel.Nest.{Nest}
 use Rattle.nest_tree.specs.declared.kernel.Term.{Term}
 use Rattle.nest_tree.specs.declared.moves.Piece.{Piece}
-use Rattle.nest_tree.specs.Lists.{IsIn}
 use Rattle.nest_tree.specs.Forms.{replaced}
-use Rattle.nest_tree.specs.Moving.{Move}
 use Rattle.nest_tree.specs.Rewriting.{variables_of, IsWide, FitsWide, IsRewritten}
 use Rattle.nest_tree.specs.Levels.{IsPermutation, NoTwice}
 use Rattle.nest_tree.specs.Pieces.{IsPermutedPiece, IsTiledPiece, IsSkewedPiece, IsPlacedPiece}
@@ -16,7 +13,7 @@ use Rattle.nest_laws.proofs.Made.{made_nest, replaced_body, body_at}
 use Rattle.nest_laws.proofs.Laws.{permute_law, tile_law, skew_law, place_pieces}
 use Rattle.worked_laws.specs.Statements.{one_cell, grid, moved, input}
 use Rattle.worked_laws.specs.Commands.{swapped, PermutedGrid, in_twos, TiledLoop, slanted, SkewedGrid, behind, PlacedLoop}
-use Rattle.worked_laws.proofs.Lists.{only, AreShort, names_none, short_rows, like_itself, rewrites}
+use Rattle.worked_laws.proofs.Lists.{only, names_none, short_rows, like_itself, rewrites}
 
 -- a number stays as it is
 made_is : (n : Nest) (p : Piece) (c : ℕ) → n.value ≡ Const c → n.terms ≡ [] → made_nest 1 n p ≡ (moved n p).new

@@ -1,11 +1,9 @@
 -- Worked places, and what would go wrong without the premises.
-use Rattle.std.proofs.Common.{◌≡◌, inl, inr, ℕ, List, [], ◌∷◌, refl, arith, ℤ, pos}
+use Rattle.std.proofs.Common.{inl, inr, [], ◌∷◌, refl, arith, pos}
 use Rattle.std.proofs.lemmas.Int.{ints}
-use Rattle.c_meaning.specs.Ground.{Step}
-use Rattle.nest_tree.specs.Lists.{IsIn, IsStrictlySorted}
-use Rattle.nest_tree.specs.Places.{IsBefore, place, Item, Precedes}
+use Rattle.nest_tree.specs.Places.{IsBefore, place}
 use Rattle.nest_tree.specs.Carriers.{loop, text, IsCarried}
-use Rattle.nest_laws.proofs.Laws.{place_law, carriers, members, one_kernel_list, order_of_items}
+use Rattle.nest_laws.proofs.Laws.{place_law, carriers, members, one_kernel_list}
 use Rattle.nest_laws.proofs.Places.{order_of_places}
 use Rattle.worked_laws.specs.Statements.{one_cell, input}
 use Rattle.worked_laws.specs.Shift.{old_list}

@@ -1,5 +1,5 @@
 -- The leaf of a loop, and the run of a loop.
-use Rattle.std.proofs.Common.{◌≡◌, inl, inr, List, [], ◌∷◌, refl, arith, ℤ, pos, true}
+use Rattle.std.proofs.Common.{◌≡◌, inl, [], ◌∷◌, refl, arith, pos, true}
 use Rattle.std.specs.Prelude.{None}
 use Rattle.std.specs.List.{list_all}
 use Rattle.std.proofs.lemmas.Int.{ints}

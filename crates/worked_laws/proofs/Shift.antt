@@ -1,14 +1,12 @@
 -- The shifted loop: all that is asked of it, and what the laws say of its lists.
-use Rattle.std.proofs.Common.{◌≡◌, ◌⊎◌, inl, inr, ℕ, zero, suc, ◌+◌, Bool, true, false, List, [], ◌∷◌, length, refl, sym, ◌∙◌, ap, subst, arith, ℤ, pos, negsuc, ◌+ℤ◌, ◌≤ℤ◌, Ok}
+use Rattle.std.proofs.Common.{◌≡◌, inl, inr, ℕ, zero, suc, ◌+◌, Bool, true, false, List, [], ◌∷◌, length, refl, sym, ◌∙◌, ap, subst, arith, ℤ, pos, ◌+ℤ◌, ◌≤ℤ◌, Ok}
 use Rattle.std.proofs.lemmas.Int.{ints}
-use Rattle.int_rows.specs.declared.row.Row.{Row}
 use Rattle.int_rows.specs.Rows.{Holds}
 use Rattle.int_rows.specs.Systems.{excluded}
 use Rattle.int_rows.specs.Exclusion.{exclusion, is_impossible}
 use Rattle.int_rows.specs.Elimination.{elimination, made as rows_made, paired, canceled, outcome, reduced, merged, made_small}
 use Rattle.int_rows.specs.Gcd.{gcd, gcd_of}
 use Rattle.c_tree.specs.declared.statement.How.TheVariants.{Write}
-use Rattle.c_meaning.specs.Memory.{Spot}
 use Rattle.c_meaning.specs.Ground.{Ground, Step}
 use Rattle.nest_tree.specs.declared.kernel.Nest.{Nest}
 use Rattle.nest_tree.specs.declared.kernel.KernelRow.{KernelRow}
@@ -24,15 +22,15 @@ use Rattle.nest_tree.specs.Kernels.{item_at, point, IsMet, IsPointOf, IsKernelLi
 use Rattle.nest_tree.specs.Moving.{Move, IsMade, StandsFor, ArePieces, IsOneToOne}
 use Rattle.nest_tree.specs.Rewriting.{variables_of, FitsWide, IsRewritten}
 use Rattle.nest_tree.specs.Pieces.{IsShiftedPiece}
-use Rattle.nest_tree.specs.Systems.{Clash, target_read, read_target, targets, IsRead, Pair, system, variables_count}
-use Rattle.nest_laws.specs.Acts.{act, spot}
+use Rattle.nest_tree.specs.Systems.{Clash, target_read, read_target, targets, IsRead, system, variables_count}
+use Rattle.nest_laws.specs.Acts.{act}
 use Rattle.nest_laws.specs.SystemLaws.{IsTested}
 use Rattle.nest_laws.proofs.Acts.{ground-Const}
 use Rattle.nest_laws.proofs.Clashes.{no_access}
-use Rattle.nest_laws.proofs.Made.{made_nest, replaced_body, body_at}
+use Rattle.nest_laws.proofs.Made.{made_nest, body_at}
 use Rattle.nest_laws.proofs.Laws.{rewritten, shift_law, one_each, made_list}
 use Rattle.nest_laws.proofs.Tested.{excluded_keep, tested_effect}
-use Rattle.worked_laws.specs.Statements.{one_cell, form, at_least_zero, input}
+use Rattle.worked_laws.specs.Statements.{one_cell, input}
 use Rattle.worked_laws.specs.Shift.{by_five, set_in, old_list, new_list, ShiftedLoop}
 use Rattle.worked_laws.proofs.Lists.{only, distinct, past_end, names_none, like_itself, rewrites, two_points}
 use Rattle.worked_laws.proofs.Pieces.{one_wide}

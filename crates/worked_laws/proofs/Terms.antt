@@ -4,7 +4,7 @@ use Rattle.int_rows.specs.declared.row.Aff.{Aff}
 use Rattle.nest_tree.specs.declared.kernel.Term.{Term}
 use Rattle.nest_tree.specs.Lists.{IsIn, IsAt}
 use Rattle.nest_tree.specs.Forms.{coef, Names}
-use Rattle.nest_tree.specs.Terms.{reading, term_values, HaveRanks}
+use Rattle.nest_tree.specs.Terms.{term_values, HaveRanks}
 use Rattle.nest_laws.proofs.Laws.{readings}
 use Rattle.worked_laws.specs.Statements.{form}
 use Rattle.worked_laws.specs.Terms.{x_input, terms, NestedTerms}

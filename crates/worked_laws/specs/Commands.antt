@@ -1,5 +1,5 @@
 -- Worked pieces of commands: each meets what its law asks, and is one to one.
-use Rattle.std.specs.Prelude.{◌≡◌, ℕ, suc, List, [], ◌∷◌, length, ℤ, pos, negsuc}
+use Rattle.std.specs.Prelude.{◌≡◌, suc, [], ◌∷◌, length, ℤ, pos, negsuc}
 use Rattle.nest_tree.specs.declared.form.Form.TheVariants.{Other}
 use Rattle.nest_tree.specs.Moving.{Move, IsOneToOne}
 use Rattle.nest_tree.specs.Rewriting.{IsRewritten}

@@ -1,5 +1,5 @@
 -- Worked level values.
-use Rattle.std.specs.Prelude.{◌≡◌, List, [], ◌∷◌, ℤ, pos, negsuc}
+use Rattle.std.specs.Prelude.{◌≡◌, List, [], ◌∷◌, pos, negsuc}
 use Rattle.nest_tree.specs.Places.{IsBefore, place}
 use Rattle.nest_tree.specs.Levels.{permuted, unpermuted, IsTiled, skewed, shifted}
 use Rattle.nest_tree.specs.Unrolling.{full, rest, Upper, IsUnrolled}

@@ -1,5 +1,5 @@
 -- Worked places: a statement in a loop, and one in a loop within it.
-use Rattle.std.specs.Prelude.{◌≡◌, ℕ, List, [], ◌∷◌, ℤ, pos, ◌≤ℤ◌, ◌-ℤ◌, ◌*ℤ◌, IsTrue}
+use Rattle.std.specs.Prelude.{◌≡◌, ℕ, List, [], ◌∷◌, ℤ, pos, ◌≤ℤ◌, ◌-ℤ◌, ◌*ℤ◌}
 use Rattle.c_tree.specs.declared.statement.How.TheVariants.{Write}
 use Rattle.c_meaning.specs.Memory.{Spot, Cells}
 use Rattle.c_meaning.specs.Ground.{number, Step}

@@ -1,5 +1,5 @@
 -- Worked loops and runs.
-use Rattle.std.specs.Prelude.{◌≡◌, List, [], ◌∷◌, ℤ, pos, IsTrue, None, if◌then◌else◌}
+use Rattle.std.specs.Prelude.{◌≡◌, [], ◌∷◌, pos, IsTrue, None, if◌then◌else◌}
 use Rattle.std.specs.List.{list_all}
 use Rattle.c_meaning.specs.Names.{same_name}
 use Rattle.c_meaning.specs.Memory.{Cells, Memory, Env}
@@ -9,8 +9,7 @@ use Rattle.c_meaning.specs.Run.{run}
 use Rattle.c_meaning.specs.Executors.{Performs}
 use Rattle.c_meaning.specs.Programs.{is_executor}
 use Rattle.c_meaning.specs.Examples.{n, copy_loop, copied}
-use Rattle.nest_tree.specs.Places.{Item}
-use Rattle.nest_tree.specs.Loops.{Levels, Loops, stop, assign, loop, IsPerformed}
+use Rattle.nest_tree.specs.Loops.{Loops, stop, assign, loop, IsPerformed}
 use Rattle.nest_tree.specs.Scans.{Leaf, between, Within, leaves, IsOfLeaf}
 
 -- for a level from 0 to below 2, the same step

@@ -1,9 +1,8 @@
 -- A worked command: the loop that sets y[0] is shifted by 5, for n = 2.
-use Rattle.std.specs.Prelude.{◌≡◌, ℕ, true, List, [], ◌∷◌, ℤ, pos, negsuc}
+use Rattle.std.specs.Prelude.{◌≡◌, true, List, [], ◌∷◌, ℤ, pos, negsuc}
 use Rattle.c_tree.specs.declared.statement.How.TheVariants.{Write}
 use Rattle.c_meaning.specs.Memory.{Cells}
 use Rattle.c_meaning.specs.Ground.{number, Step}
-use Rattle.nest_tree.specs.declared.kernel.Nest.{Nest}
 use Rattle.nest_tree.specs.declared.form.Form.TheVariants.{Other}
 use Rattle.nest_tree.specs.Places.{Item, Precedes}
 use Rattle.nest_tree.specs.Effects.{IsMoved, KeepsOrder}

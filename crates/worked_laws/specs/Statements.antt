@@ -5,7 +5,6 @@ use Rattle.c_tree.specs.declared.statement.How.TheVariants.{Write}
 use Rattle.nest_tree.specs.declared.kernel.Nest.{Nest}
 use Rattle.nest_tree.specs.declared.kernel.KernelRow.{KernelRow}
 use Rattle.nest_tree.specs.declared.moves.Piece.{Piece}
-use Rattle.nest_tree.specs.declared.body.Access.{Access}
 use Rattle.nest_tree.specs.declared.body.Body.TheVariants.{Const}
 use Rattle.nest_tree.specs.declared.form.Form.{Form}
 use Rattle.nest_tree.specs.declared.form.Form.TheVariants.{Other}

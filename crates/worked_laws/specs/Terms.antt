@@ -1,5 +1,5 @@
 -- Worked terms: a read within a read.
-use Rattle.std.specs.Prelude.{◌≡◌, ℕ, zero, suc, List, [], ◌∷◌, ◌++◌, map, ℤ, pos, Option, Some, None}
+use Rattle.std.specs.Prelude.{◌≡◌, ℕ, zero, suc, List, [], ◌∷◌, map, ℤ, pos, Option, Some, None}
 use Rattle.nest_tree.specs.declared.kernel.Term.{Term}
 use Rattle.nest_tree.specs.Terms.{Input, reading, term_values}
 use Rattle.nest_laws.specs.KernelLaws.{HaveSomeRanks}
