@@ -9,5 +9,6 @@ pub use scans::{
     scanned_kernel_has_its_list,
 };
 pub use worked::{
-    worked_alone, worked_bounds, worked_executor, worked_printing, worked_rows, worked_scan, worked_size,
+    worked_alone, worked_bounds, worked_executor, worked_printing, worked_rows, worked_scan,
+    worked_size,
 };

@@ -73,11 +73,11 @@ module _ (x : ℕ) where
         names_none x w (low_of x f)
         (let c = coef-added x unit (map (λ d. negsuc 0 *ℤ d) f.coefs) in let d = coef-scaled x (negsuc 0) f.coefs in let u = coef-itself x in omega (arith, ints))
         (λ i l. (
-            let c = coef-added (x + suc i) unit (map (λ d. negsuc 0 *ℤ d) f.coefs) in
-            let d = coef-scaled (x + suc i) (negsuc 0) f.coefs in
-            let u = coef-zeros x i in
-            let z = later i l in
-            omega (arith, ints)))
+        let c = coef-added (x + suc i) unit (map (λ d. negsuc 0 *ℤ d) f.coefs) in
+        let d = coef-scaled (x + suc i) (negsuc 0) f.coefs in
+        let u = coef-zeros x i in
+        let z = later i l in
+        omega (arith, ints)))
 
     -- the coefficient of x goes with b*x
     gone : (c : ℤ) → c <ℤ pos 0 → (c +ℤ (pos (suc (size_less_one c)) *ℤ pos 1)) ≡ pos 0
@@ -90,9 +90,9 @@ module _ (x : ℕ) where
         names_none x w (upper_of x f).bound
         (coef-added x f.coefs (map (λ d. k *ℤ d) unit) ∙ ap (λ (z : ℤ). coef x f.coefs +ℤ z) (coef-scaled x k unit ∙ ap (λ (z : ℤ). k *ℤ z) (coef-itself x)) ∙ gone (coef x f.coefs) below)
         (λ i l. (
-            coef-added (x + suc i) f.coefs (map (λ d. k *ℤ d) unit)
-            ∙ ap (λ (z : ℤ). coef (x + suc i) f.coefs +ℤ z) (coef-scaled (x + suc i) k unit ∙ ap (λ (z : ℤ). k *ℤ z) (coef-zeros x i) ∙ *ℤ-zero k)
-            ∙ ap (λ (z : ℤ). z +ℤ pos 0) (later i l)))
+        coef-added (x + suc i) f.coefs (map (λ d. k *ℤ d) unit)
+        ∙ ap (λ (z : ℤ). coef (x + suc i) f.coefs +ℤ z) (coef-scaled (x + suc i) k unit ∙ ap (λ (z : ℤ). k *ℤ z) (coef-zeros x i) ∙ *ℤ-zero k)
+        ∙ ap (λ (z : ℤ). z +ℤ pos 0) (later i l)))
 
 module _ (head : Program) (n : Nest) (before : ℕ) (shaped : IsShapedNest head n) (inside : before < length n.levels) where
   abbrev params : ℕ

@@ -260,11 +260,11 @@ module _ (head : Program) (n : Nest) (before factor copy : ℕ) (b : Bounds) (po
       let d : before + suc k ≡ length n.levels = omega arith in
       let z : params + 0 ≡ params = omega arith in (
         subst (λ (m : ℕ). Pairwise IsLike (map (old_form vars params (suc before) (value_at x factor b (pos copy)) 0) (range_with_len 0 m)) (level_forms full factor copy params before (length n.levels) (low_of x b.lower))) d
-        (all_levels params before vars (value_at x factor b (pos copy)) (grouped (low_of x b.lower) factor x (number (pos copy))) (value_like (pos copy) s) before k 0 params (omega arith) z),
+            (all_levels params before vars (value_at x factor b (pos copy)) (grouped (low_of x b.lower) factor x (number (pos copy))) (value_like (pos copy) s) before k 0 params (omega arith) z),
         (
           (refl, like_unit vars x),
           subst (Pairwise IsRowOf (replaced_uppers (suc before) x (value_at x factor b last) (pos 0 ∷ []) b.uppers)) (sym (append-nil (map (λ u. upper_form u (grouped (low_of x b.lower) factor x (number last))) (map (upper_of x) b.uppers))))
-          (rows_like (suc before) b.uppers l (λ f a. subst (λ (fs : List Aff). IsIn f fs) h.uppers a) (λ r a. small r (inr a))),
+              (rows_like (suc before) b.uppers l (λ f a. subst (λ (fs : List Aff). IsIn f fs) h.uppers a) (λ r a. small r (inr a))),
         ),
       )
 

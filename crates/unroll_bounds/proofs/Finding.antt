@@ -102,8 +102,7 @@ inequality w d rows r all a own =
     not-true (r.row).equal (other (nat_eq r.own 0) (not (r.row).equal) (none r.own own) q.1)
   where
     none : (k : ℕ) → nat_lt 0 k ≡ true → nat_eq k 0 ≡ false
-    none zero e = absurd cc
-    none (suc k) e = refl
+    none k e = grind (arith, e)
 
     other : (a b : Bool) → a ≡ false → (a || b) ≡ true → b ≡ true
     other true b e h = absurd cc

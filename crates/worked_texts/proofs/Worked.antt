@@ -9,7 +9,7 @@ use Rattle.c_tokens.specs.Signs.{word_of, is_keyword}
 use Rattle.c_tokens.specs.Pieces.{tokens_of, tokens_after, token_of_run}
 use Rattle.c_tree.specs.declared.index.Index.TheVariants.{Const, Var}
 use Rattle.c_tree.specs.declared.index.Subscripts.TheVariants.{One}
-use Rattle.c_tree.specs.declared.data.Expr.TheVariants as data
+use Rattle.c_tree.specs.declared.data.Expr.TheVariants as expr
 use Rattle.c_tree.specs.declared.program.Program.{Program}
 use Rattle.c_grammar.specs.Data.{IsData}
 use Rattle.c_grammar.specs.Statement.{IsStatement}
@@ -78,16 +78,16 @@ pub words : WorkedWords
 words = (t1_is, refl, t1_reads, small, seven_reads)
 
 -- ---- data
-two_is : data_printed cell_text (data.Const 2) ≡ atom (codes "2")
-two_is = data_at (data.Const 2) _ (data.outs-Const 2) ∙ ap atom (decimal_digit 2 (omega arith))
+two_is : data_printed cell_text (expr.Const 2) ≡ atom (codes "2")
+two_is = data_at (expr.Const 2) _ (expr.outs-Const 2) ∙ ap atom (decimal_digit 2 (omega arith))
 
 difference_text : (data_printed cell_text difference).text ≡ codes "c[i] - 2"
 difference_text =
-    data_minus _ (data.Const 2)
-    ∙ ap (λ (p : Printed). (data_printed cell_text (data.At (record { array = c; at = One (Var i) }))).text ++ codes " - " ++ (as_part p).text) two_is
+    data_minus _ (expr.Const 2)
+    ∙ ap (λ (p : Printed). (data_printed cell_text (expr.At (record { array = c; at = One (Var i) }))).text ++ codes " - " ++ (as_part p).text) two_is
     ∙ ap (λ (t : Text). t ++ codes " - 2") cell_c
   where
-    cell_c : (data_printed cell_text (data.At (record { array = c; at = One (Var i) }))).text ≡ codes "c[i]"
+    cell_c : (data_printed cell_text (expr.At (record { array = c; at = One (Var i) }))).text ≡ codes "c[i]"
     cell_c = simp (data_cell, cell_is, subscripts_one, text_var)
 
 difference_fits : FitsData 1 difference

@@ -5,7 +5,7 @@ use Rattle.c_tokens.specs.Lines.{prelude}
 use Rattle.c_tokens.specs.Pieces.{tokens_of, tokens_after}
 use Rattle.c_tree.specs.declared.index.Index.TheVariants.{Const, Var}
 use Rattle.c_tree.specs.declared.data.Expr.{Expr}
-use Rattle.c_tree.specs.declared.data.Expr.TheVariants as data
+use Rattle.c_tree.specs.declared.data.Expr.TheVariants as expr
 use Rattle.c_tree.specs.declared.statement.How.TheVariants.{Write}
 use Rattle.c_tree.specs.declared.statement.Stmt.{Stmt}
 use Rattle.c_tree.specs.declared.statement.Stmt.TheVariants.{For, Assign}
@@ -34,7 +34,7 @@ WorkedWords =
 
 -- c[i] less 2
 abbrev pub difference : Expr
-difference = data.Minus (data.At (at c (Var i))) (data.Const 2)
+difference = expr.Minus (expr.At (at c (Var i))) (expr.Const 2)
 
 -- it has its text before `;` where one bracket may be opened
 abbrev pub WorkedData : Type 0
@@ -43,7 +43,7 @@ WorkedData =
 
 -- for (int64_t i = 0; i < n; i++) b[i] = c[i];
 abbrev pub copy_loop : Stmt
-copy_loop = For i (Const (pos 0)) (Var n) (Assign (at b (Var i)) Write (data.At (at c (Var i))) ∷ [])
+copy_loop = For i (Const (pos 0)) (Var n) (Assign (at b (Var i)) Write (expr.At (at c (Var i))) ∷ [])
 
 abbrev pub loop_text : Text
 loop_text = codes "  for (int64_t i = 0; i < n; i++) {\n    b[i] = c[i];\n  }\n"
