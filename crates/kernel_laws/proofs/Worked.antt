@@ -1,21 +1,19 @@
 -- The worked piece, computed.
-use Rattle.std.proofs.Common.{◌≡◌, inl, inr, ℕ, zero, suc, ◌+◌, true, List, [], ◌∷◌, refl, ◌∙◌, ap, arith, pos, negsuc}
-use Rattle.std.specs.Prelude.{Result, Ok, Err}
+use Rattle.std.proofs.Common.{◌≡◌, inl, inr, ℕ, suc, ◌+◌, true, [], ◌∷◌, refl, ◌∙◌, ap, arith, pos}
+use Rattle.std.specs.Prelude.{Result, Ok}
 use Rattle.int_rows.specs.declared.row.Aff.{Aff}
 use Rattle.int_rows.specs.declared.row.Excess.{Excess}
 use Rattle.nest_tree.specs.declared.body.Body.{Body}
 use Rattle.nest_tree.specs.declared.body.Body.TheVariants.{Const}
 use Rattle.nest_tree.specs.declared.kernel.Nest.{Nest}
-use Rattle.nest_tree.specs.Lists.{IsIn}
 use Rattle.nest_tree.specs.Forms.{coef}
-use Rattle.nest_tree.specs.Rewriting.{NamesNoTerm}
 use Rattle.nest_core.specs.Forms.{level_coefs, lifted, judged_sum, number_made, rewritten}
-use Rattle.nest_core.specs.Pieces.{body_made, own_made, frame_of, nest_of_piece}
+use Rattle.nest_core.specs.Pieces.{own_made, frame_of, nest_of_piece}
 use Rattle.nest_core.specs.Shapes.{IsShapedNest, FitsNest}
 use Rattle.nest_core.specs.Making.{after}
 use Rattle.nest_core.proofs.Bodies.{made-Const, over_is-Const}
 use Rattle.kernel_laws.specs.Laws.{IsPlain}
-use Rattle.kernel_laws.specs.Examples.{head, form, ones, by_five, shifted_ones, WorkedPiece}
+use Rattle.kernel_laws.specs.Examples.{head, ones, by_five, shifted_ones, WorkedPiece}
 use Rattle.kernel_laws.proofs.Pieces.{rewrites}
 
 shaped : IsShapedNest head ones

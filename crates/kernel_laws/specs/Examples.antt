@@ -1,10 +1,9 @@
 -- A worked case: y[i] = 1 for i from 0 to below n, shifted by 5.
-use Rattle.std.specs.Prelude.{◌≡◌, ℕ, true, false, List, [], ◌∷◌, length, ℤ, pos, negsuc, None, Ok}
+use Rattle.std.specs.Prelude.{◌≡◌, true, false, [], ◌∷◌, ℤ, pos, negsuc, None, Ok}
 use Rattle.int_rows.specs.declared.row.Aff.{Aff}
 use Rattle.c_tree.specs.declared.program.Program.{Program}
 use Rattle.c_tree.specs.declared.statement.How.TheVariants.{Write}
 use Rattle.nest_tree.specs.declared.kernel.Nest.{Nest}
-use Rattle.nest_tree.specs.declared.kernel.KernelRow.{KernelRow}
 use Rattle.nest_tree.specs.declared.moves.Piece.{Piece}
 use Rattle.nest_tree.specs.declared.body.Body.TheVariants.{Const}
 use Rattle.nest_tree.specs.declared.form.Form.TheVariants.{Other}

@@ -1,6 +1,5 @@
 -- The bounds that are found are those of the law.
-use Rattle.std.proofs.Common.{◌≡◌, ◌⊎◌, inl, inr, ℕ, zero, suc, ◌+◌, ◌-◌, ◌<◌, ◌≤◌, Bool, true, false, List, [], ◌∷◌, map, length, refl, sym, ◌∙◌, ap, subst, arith, ℤ, pos, negsuc, ◌+ℤ◌, ◌*ℤ◌, ◌<ℤ◌, int_lt}
-use Rattle.std.specs.Prelude.{Some}
+use Rattle.std.proofs.Common.{◌≡◌, ◌⊎◌, inl, inr, ℕ, zero, suc, ◌+◌, ◌-◌, ◌<◌, true, List, [], ◌∷◌, map, length, refl, sym, ◌∙◌, ap, subst, arith, ℤ, pos, negsuc, ◌+ℤ◌, ◌*ℤ◌, ◌<ℤ◌, int_lt}
 use Rattle.std.proofs.lemmas.Int.{ints}
 use lib.IntN.{*ℤ-zero}
 use Rattle.int_rows.specs.declared.row.Aff.{Aff}
@@ -8,13 +7,13 @@ use Rattle.c_tree.specs.declared.program.Program.{Program}
 use Rattle.nest_tree.specs.declared.kernel.Nest.{Nest}
 use Rattle.nest_tree.specs.declared.kernel.KernelRow.{KernelRow}
 use Rattle.nest_tree.specs.Lists.{IsIn}
-use Rattle.nest_tree.specs.Forms.{coef, added, sum, times, less, zeros, variable, Names}
+use Rattle.nest_tree.specs.Forms.{coef, added, less, zeros, variable}
 use Rattle.nest_tree.specs.Pieces.{IsLike}
 use Rattle.nest_laws.proofs.Narrow.{coef-added, coef-scaled, coef-zeros}
 use Rattle.nest_core.specs.Shapes.{IsShapedNest, vars_of}
 use Rattle.unroll_laws.specs.Grouping.{UpperRow, upper_form, HasRow, NamesNone, IsBounded}
 use Rattle.unroll.specs.declared.bounds.Bounds.{Bounds}
-use Rattle.unroll.specs.Bounds.{var_of, names_later, is_lower, is_upper, forms_where, only_one, bounds_of}
+use Rattle.unroll.specs.Bounds.{var_of, is_lower, is_upper, forms_where, only_one, bounds_of}
 use Rattle.unroll.specs.Bounds as found
 use Rattle.unroll_bounds.specs.Laws.{low_of, size_less_one, upper_of, FoundBoundsAreBounds}
 use Rattle.unroll_bounds.proofs.Finding.{later-zero, index-coef, Bounding, lower_is, upper_is, plain_is, inequality, form-found, only_one-is, Found, found_by}

@@ -1,7 +1,6 @@
 -- The forms and rows of a copy are those of the law.
 use Rattle.std.proofs.Common.{◌≡◌, ◌⊎◌, inl, inr, ℕ, zero, suc, ◌+◌, ◌-◌, ◌≤◌, ◌<◌, ◌^◌, Bool, true, false, cond, nat_eq, nat_lt, List, [], ◌∷◌, ◌++◌, map, length, refl, sym, ◌∙◌, ap, subst, arith, ℤ, pos, negsuc, ◌+ℤ◌, ◌-ℤ◌, ◌*ℤ◌, ◌<ℤ◌, unsigned_abs, append-nil, eq-eqb}
-use Rattle.std.specs.Prelude.{Some, IsTrue}
-use Rattle.std.specs.List.{list_all, range_with_len}
+use Rattle.std.specs.List.{range_with_len}
 use Rattle.std.proofs.lemmas.Int.{ints}
 use Rattle.std.proofs.lemmas.Bool.{eqb-true, and_parts}
 use lib.IntN.{*ℤ-zero}
@@ -10,7 +9,7 @@ use Rattle.c_tree.specs.declared.program.Program.{Program}
 use Rattle.nest_tree.specs.declared.kernel.Nest.{Nest}
 use Rattle.nest_tree.specs.declared.kernel.KernelRow.{KernelRow}
 use Rattle.nest_tree.specs.Lists.{IsIn, Pairwise}
-use Rattle.nest_tree.specs.Forms.{coef, added, sum, times, number, zeros, variable, variables}
+use Rattle.nest_tree.specs.Forms.{coef, added, number, zeros, variable, variables}
 use Rattle.nest_tree.specs.Pieces.{IsLike}
 use Rattle.nest_tree.specs.Unrolling.{full}
 use Rattle.nest_laws.proofs.Narrow.{coef-added, coef-scaled}
@@ -22,7 +21,7 @@ use Rattle.unroll_laws.specs.Grouping.{UpperRow, upper_form, grouped, IsRowOf, g
 use Rattle.unroll.specs.declared.bounds.Bounds.{Bounds}
 use Rattle.unroll.specs.Bounds.{var_of, is_lower, is_upper, forms_where, only_one, bounds_of}
 use Rattle.unroll.specs.Bounds as found
-use Rattle.unroll.specs.Groups.{difference, with_group, negated, value_form, plus_multiples, replaced}
+use Rattle.unroll.specs.Groups.{difference, with_group, negated, value_form, replaced}
 use Rattle.unroll.specs.Unrolled.{moved_place, old_form, replaced_uppers, full_rows, piece_by, full_piece}
 use Rattle.unroll_bounds.specs.Laws.{low_of, size_less_one, upper_of}
 use Rattle.unroll_bounds.specs.Copies.{IsSmall, value_at, CopyIsOfTheLaw}

@@ -1,10 +1,9 @@
 -- Numbers within the limit are exact, and what they are at each place of a form.
 use Rattle.std.proofs.Common.{◌≡◌, ℕ, zero, suc, ◌+◌, ◌-◌, ◌≤◌, ◌<◌, ◌^◌, Bool, true, false, cond, List, [], ◌∷◌, ◌++◌, length, refl, sym, ◌∙◌, ap, arith, ℤ, pos, ◌+ℤ◌, ◌-ℤ◌, ◌*ℤ◌, unsigned_abs}
-use Rattle.std.specs.Prelude.{Some, None, take, drop, replicate}
+use Rattle.std.specs.Prelude.{Some, None, replicate}
 use Rattle.std.proofs.lemmas.Int.{ints}
 use lib.IntN.{*ℤ-zero, zero-*ℤ}
 use Rattle.chill_base.proofs.Ring.{sum_times}
-use Rattle.int_rows.specs.declared.row.Aff.{Aff}
 use Rattle.nest_tree.specs.Forms.{coef, zeros, variable}
 use Rattle.nest_tree.specs.Pieces.{IsLike}
 use Rattle.nest_core.specs.Numbers.{is_small, judged_number}

@@ -2,7 +2,6 @@
 use Rattle.std.proofs.Common.{◌≡◌, inl, inr, ℕ, zero, suc, ◌≤◌, ◌^◌, List, [], ◌∷◌, refl, sym, subst, arith, ℤ, pos, negsuc, unsigned_abs}
 use Rattle.std.specs.Prelude.{Some}
 use Rattle.std.specs.List.{AllByRecursion}
-use Rattle.int_rows.specs.declared.row.Aff.{Aff}
 use Rattle.nest_tree.specs.declared.kernel.KernelRow.{KernelRow}
 use Rattle.nest_tree.specs.Lists.{IsIn}
 use Rattle.nest_tree.specs.Forms.{coef}
@@ -14,7 +13,7 @@ use Rattle.unroll.specs.Bounds.{bounds_of, is_lower, is_upper, is_plain, names_l
 use Rattle.unroll.specs.Groups.{sum, difference, with_group, value_form, plus_multiple, replaced}
 use Rattle.unroll.specs.Unrolled.{old_form, full_rows, piece_by, full_piece}
 use Rattle.unroll_bounds.specs.Copies.{IsSmall, value_at}
-use Rattle.unroll_bounds.specs.Examples.{head, form, low, high, ones, bounds, copy, WorkedBounds, WorkedCopy}
+use Rattle.unroll_bounds.specs.Examples.{head, form, ones, bounds, copy, WorkedBounds, WorkedCopy}
 use Rattle.unroll_bounds.proofs.Bounded.{bounded}
 use Rattle.unroll_bounds.proofs.Copies.{copies}
 

@@ -1,5 +1,5 @@
 -- A worked case: for i from 0 to below n, y[i] = 1.
-use Rattle.std.specs.Prelude.{◌≡◌, ℕ, false, List, [], ◌∷◌, length, map, ℤ, pos, negsuc, None, Some}
+use Rattle.std.specs.Prelude.{◌≡◌, false, [], ◌∷◌, ℤ, pos, negsuc, None, Some}
 use Rattle.int_rows.specs.declared.row.Aff.{Aff}
 use Rattle.c_tree.specs.declared.program.Program.{Program}
 use Rattle.c_tree.specs.declared.statement.How.TheVariants.{Write}

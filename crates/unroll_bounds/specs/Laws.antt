@@ -1,5 +1,5 @@
 -- The bounds that `unroll` finds for a level, as the laws of unrolled statements have them.
-use Rattle.std.specs.Prelude.{◌≡◌, ℕ, suc, ◌+◌, ◌<◌, List, map, length, ℤ, pos, negsuc, Some}
+use Rattle.std.specs.Prelude.{◌≡◌, ℕ, suc, ◌+◌, ◌<◌, map, length, ℤ, pos, negsuc, Some}
 use Rattle.int_rows.specs.declared.row.Aff.{Aff}
 use Rattle.c_tree.specs.declared.program.Program.{Program}
 use Rattle.nest_tree.specs.declared.kernel.Nest.{Nest}

@@ -1,8 +1,7 @@
 -- The worked texts, printed and read.
-use Rattle.std.proofs.Common.{◌≡◌, ◌<◌, ◌^◌, ℕ, suc, List, [], ◌∷◌, ◌++◌, refl, sym, ap, subst, ◌∙◌, arith, pos}
-use Rattle.std.specs.Prelude.{codes, decimal}
+use Rattle.std.proofs.Common.{◌≡◌, ◌<◌, ◌^◌, ℕ, suc, ◌∷◌, ◌++◌, refl, sym, ap, subst, ◌∙◌, arith, pos}
+use Rattle.std.specs.Prelude.{codes}
 use Rattle.std.proofs.lemmas.Fmt.{decimal_digit}
-use Rattle.c_tokens.specs.declared.token.Token.{Token}
 use Rattle.c_tokens.specs.declared.token.Token.TheVariants as token
 use Rattle.c_tokens.specs.declared.pieces.Margin.TheVariants as m
 use Rattle.c_tokens.specs.Signs.{word_of, is_keyword}
@@ -10,7 +9,6 @@ use Rattle.c_tokens.specs.Pieces.{tokens_of, tokens_after, token_of_run}
 use Rattle.c_tree.specs.declared.index.Index.TheVariants.{Const, Var}
 use Rattle.c_tree.specs.declared.index.Subscripts.TheVariants.{One}
 use Rattle.c_tree.specs.declared.data.Expr.TheVariants as expr
-use Rattle.c_tree.specs.declared.program.Program.{Program}
 use Rattle.c_grammar.specs.Data.{IsData}
 use Rattle.c_grammar.specs.Statement.{IsStatement}
 use Rattle.c_grammar.specs.Program.{IsProgram, executor}

@@ -1,5 +1,5 @@
 -- Worked texts: words, a data expression, a statement and a program.
-use Rattle.std.specs.Prelude.{◌≡◌, ◌<◌, ◌^◌, ℕ, pos, List, [], ◌∷◌, ◌++◌, codes}
+use Rattle.std.specs.Prelude.{◌≡◌, ◌<◌, ◌^◌, pos, [], ◌∷◌, ◌++◌, codes}
 use Rattle.c_tokens.specs.declared.token.Token.TheVariants as token
 use Rattle.c_tokens.specs.Lines.{prelude}
 use Rattle.c_tokens.specs.Pieces.{tokens_of, tokens_after}
