@@ -1,28 +1,25 @@
 -- The numbers of a rewritten form, and its value.
-use Rattle.std.proofs.Common.{◌≡◌, ◌⊎◌, inl, inr, ℕ, zero, suc, ◌+◌, ◌<◌, ◌≤◌, Bool, true, false, cond, List, [], ◌∷◌, ◌++◌, map, length, take, drop, refl, sym, ◌∙◌, ap, subst, arith, ℤ, pos, ◌+ℤ◌, ◌*ℤ◌, append_assoc, length-append, length-take, eq-eqb}
-use Rattle.std.specs.Prelude.{Option, Some, None, Result, Ok, Err, replicate, slice_index_or}
+use Rattle.std.proofs.Common.{◌≡◌, ◌⊎◌, inl, inr, ℕ, zero, suc, ◌+◌, ◌<◌, ◌≤◌, Bool, true, false, cond, List, [], ◌∷◌, ◌++◌, map, length, take, drop, refl, sym, ◌∙◌, ap, subst, arith, ℤ, pos, ◌+ℤ◌, ◌*ℤ◌, append_assoc, length-append}
+use Rattle.std.specs.Prelude.{Option, Some, None, Ok, replicate, slice_index_or}
 use Rattle.std.specs.List.{list_all}
 use Rattle.std.proofs.lemmas.Int.{ints}
-use Rattle.std.proofs.lemmas.Bool.{cases_Bool, eqb-true}
 use Rattle.std.proofs.lemmas.List.{length-replicate}
 use lib.IntN.{*ℤ-zero, zero-*ℤ}
 use Rattle.int_rows.specs.declared.row.Aff.{Aff}
-use Rattle.int_rows.specs.declared.row.Excess.{Excess}
 use Rattle.int_rows.specs.Rows.{dot}
 use Rattle.nest_tree.specs.Lists.{IsIn}
-use Rattle.nest_tree.specs.Forms.{value, coef, added, sum, combined, times, variable, variables, zeros, Names}
+use Rattle.nest_tree.specs.Forms.{value, coef, sum, combined, variable, variables}
 use Rattle.nest_tree.specs.Pieces.{IsLike}
 use Rattle.nest_tree.specs.Rewriting.{HasValue, SaysForm, NamesNoTerm}
 use Rattle.nest_core.specs.declared.form.Frame.{Frame}
-use Rattle.nest_core.specs.Making.{after, before}
 use Rattle.nest_core.specs.Numbers.{is_small, judged_number}
-use Rattle.nest_core.specs.Forms.{number_at, old_vars, new_vars, level_coefs, lifted, summands, int_sum, judged_sum, or_large, number_made, numbers_made, rewritten}
+use Rattle.nest_core.specs.Forms.{number_at, new_vars, level_coefs, lifted, summands, int_sum, judged_sum, or_large, number_made, numbers_made, rewritten}
 use Rattle.nest_core.proofs.Kept.{before_ok, after_ok}
-use Rattle.nest_laws.proofs.Forms.{value-sum, value-combined, dot-added}
+use Rattle.nest_laws.proofs.Forms.{value-sum, value-combined}
 use Rattle.nest_laws.proofs.Lists.{map-append}
 use Rattle.nest_laws.proofs.Made.{coef-combined, coef-drop}
 use Rattle.nest_laws.proofs.Narrow.{coef-added, like-value}
-use Rattle.nest_laws.proofs.Points.{coef-before, coef-behind, length-map}
+use Rattle.nest_laws.proofs.Points.{coef-behind, length-map}
 
 -- ---- numbers that are made
 judged-same : (z y : ℤ) (b : Bool) → cond b (Some z) None ≡ Some y → y ≡ z

@@ -1,11 +1,10 @@
 -- A statement that a plain piece makes is the old one in the new variables.
-use Rattle.std.proofs.Common.{◌≡◌, ◌⊎◌, inl, inr, ℕ, zero, suc, ◌+◌, Bool, true, false, ◌&&◌, cond, List, [], ◌∷◌, ◌++◌, map, length, refl, sym, ◌∙◌, ap, subst, arith, ℤ, append-nil}
-use Rattle.std.specs.Prelude.{Option, Some, None, Result, Ok, Err, IsTrue}
+use Rattle.std.proofs.Common.{◌≡◌, inl, inr, ℕ, suc, ◌+◌, Bool, true, false, cond, List, [], ◌∷◌, ◌++◌, length, refl, sym, ◌∙◌, ap, subst, arith, ℤ, append-nil}
+use Rattle.std.specs.Prelude.{Some, None, Result, Ok, Err}
 use Rattle.std.specs.List.{list_all}
 use Rattle.std.proofs.lemmas.Bool.{eqb-true}
 use Rattle.int_rows.specs.declared.row.Aff.{Aff}
 use Rattle.int_rows.specs.declared.row.Excess.{Excess}
-use Rattle.c_tree.specs.declared.program.Program.{Program}
 use Rattle.nest_tree.specs.declared.body.Access.{Access}
 use Rattle.nest_tree.specs.declared.body.Body.{Body}
 use Rattle.nest_tree.specs.declared.body.Body.TheVariants.{Const, At, Plus, Minus, Times}
@@ -15,17 +14,17 @@ use Rattle.nest_tree.specs.declared.kernel.KernelRow.{KernelRow}
 use Rattle.nest_tree.specs.declared.moves.Piece.{Piece}
 use Rattle.nest_tree.specs.Lists.{IsIn, Pairwise}
 use Rattle.nest_tree.specs.Forms.{variables}
-use Rattle.nest_tree.specs.Rewriting.{variables_of, HasValue, SaysForm, SaysTerm, SaysRow, SaysAccess, SaysBody, const, at, plus, minus, times, NamesNoTerm, IsRewritten}
+use Rattle.nest_tree.specs.Rewriting.{variables_of, HasValue, SaysForm, SaysTerm, SaysRow, SaysAccess, SaysBody, const, at, plus, minus, times, NamesNoTerm}
 use Rattle.nest_core.specs.declared.form.Frame.{Frame}
-use Rattle.nest_core.specs.Making.{after, before, each_made, both_lists, pair_made}
+use Rattle.nest_core.specs.Making.{each_made, both_lists}
 use Rattle.nest_core.specs.Forms.{has_vars, new_vars, rewritten, number_judged, numbers_judged, judged_form, or_large}
-use Rattle.nest_core.specs.Numbers.{is_small, judged_number}
+use Rattle.nest_core.specs.Numbers.{is_small}
 use Rattle.nest_core.specs.Pieces.{access_made, both_made, body_made, own_made, row_made, row_judged, kept, term_made, frame_of, nest_of_piece}
-use Rattle.nest_core.specs.Shapes.{vars_of, is_row_over, is_term_over, is_access_over, is_body_over, IsShapedNest, FitsNest}
+use Rattle.nest_core.specs.Shapes.{is_row_over, is_term_over, is_access_over, is_body_over}
 use Rattle.nest_core.proofs.Kept.{before_ok, after_ok, both_lists_ok, and}
 use Rattle.nest_core.proofs.Bodies.{made-Const, made-At, made-Plus, made-Minus, made-Times, over-At, over-Plus, over-Minus, over-Times}
-use Rattle.nest_core.proofs.BodiesKept.{Cases, induct}
-use Rattle.kernel_laws.specs.Laws.{IsPlain, PieceRewritesStatement}
+use Rattle.nest_core.proofs.BodiesKept.{induct}
+use Rattle.kernel_laws.specs.Laws.{PieceRewritesStatement}
 use Rattle.kernel_laws.proofs.Forms.{rewritten-has_value, rewritten-says}
 
 -- what is made of each thing of a list

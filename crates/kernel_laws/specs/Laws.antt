@@ -1,5 +1,5 @@
 -- What the statements that pieces make in code have to do with the old ones.
-use Rattle.std.specs.Prelude.{◌≡◌, ℕ, ◌+◌, Bool, List, [], length, Ok}
+use Rattle.std.specs.Prelude.{◌≡◌, ℕ, ◌+◌, Bool, [], length, Ok}
 use Rattle.int_rows.specs.declared.row.Aff.{Aff}
 use Rattle.c_tree.specs.declared.program.Program.{Program}
 use Rattle.nest_tree.specs.declared.kernel.Nest.{Nest}

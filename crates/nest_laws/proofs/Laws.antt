@@ -63,7 +63,9 @@ keeps_effect i moves xs ys p q m k s =
     ∙ sym (by_items xs s)
 
 pub readings : TermsHaveTheirReadings
-readings i terms p rank ranks = (term_values_hold i terms p rank ranks, only_values i terms p rank ranks)
+readings i [] p h = (refl, λ ts e. e)
+readings i (t ∷ terms) p (inl e) = absurd (omega (arith, e))
+readings i (t ∷ terms) p (inr k) = (term_values_hold i (t ∷ terms) p k.0 k.1, only_values i (t ∷ terms) p k.0 k.1)
 
 pub rewritten : RewrittenStandsForOld
 rewritten i m r = rewritten-stands act i m r (same_act (length i.params) m r)

@@ -15,10 +15,6 @@ pub mod Skewing
 pub mod Laws
 pub mod Made
 pub mod Unrolling
-pub mod Diagonal
-pub mod Shifted
-pub mod Small
-pub mod Counter
 pub mod Systems
 pub mod Clashes
 pub mod Tested
@@ -29,4 +25,3 @@ pub mod Running
 pub mod Direct
 pub mod Bounding
 pub mod Weights
-pub mod ShiftTested

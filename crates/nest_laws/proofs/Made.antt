@@ -102,7 +102,7 @@ replaced_body_layer olds (Times-F a b) = Times a b
 pub replaced_body : List Aff → Body → Body
 replaced_body olds = fold-Body Body (replaced_body_layer olds)
 
-body_at : (olds : List Aff) (b : Body) (d : Body-F Body) → out-Body b ≡ d → replaced_body olds b ≡ replaced_body_layer olds (map-Body Body Body (replaced_body olds) d)
+pub body_at : (olds : List Aff) (b : Body) (d : Body-F Body) → out-Body b ≡ d → replaced_body olds b ≡ replaced_body_layer olds (map-Body Body Body (replaced_body olds) d)
 unfolding replaced_body
 body_at olds b d h = fold_out-Body Body (replaced_body_layer olds) b ∙ ap (λ d. replaced_body_layer olds (map-Body Body Body (replaced_body olds) d)) h
 

@@ -1,5 +1,5 @@
 -- Laws of kernels on an input: values of terms, rewritten statements, and the list of a kernel that pieces make.
-use Rattle.std.specs.Prelude.{◌≡◌, ℕ, List, ◌++◌, map, length, ℤ}
+use Rattle.std.specs.Prelude.{◌≡◌, ◌⊎◌, ℕ, List, ◌++◌, map, length, ℤ}
 use Rattle.nest_tree.specs.declared.kernel.Nest.{Nest}
 use Rattle.nest_tree.specs.declared.kernel.Term.{Term}
 use Rattle.nest_tree.specs.declared.moves.Piece.{Piece}
@@ -13,10 +13,14 @@ use Rattle.nest_tree.specs.Rewriting.{IsRewritten, IsWide, FitsWide}
 use Rattle.c_meaning.specs.Ground.{Step}
 use Rattle.nest_laws.specs.Acts.{act}
 
+-- no term holds itself, if there are terms
+abbrev pub HaveSomeRanks : ℕ → List Term → Type 0
+HaveSomeRanks width terms = (length terms ≡ 0) ⊎ ((rank : ℕ → ℕ) × HaveRanks width terms rank)
+
 -- where no term holds itself, the terms' values are what the terms read at these values, and no other values are
 abbrev pub TermsHaveTheirReadings : Type 0
 TermsHaveTheirReadings =
-    (i : Input) (terms : List Term) (p : List ℤ) (rank : ℕ → ℕ) → HaveRanks (length p) terms rank
+    (i : Input) (terms : List Term) (p : List ℤ) → HaveSomeRanks (length p) terms
     → (term_values i terms p ≡ map (reading i (p ++ term_values i terms p)) terms) × ((ts : List ℤ) → ts ≡ map (reading i (p ++ ts)) terms → ts ≡ term_values i terms p)
 
 -- a rewritten statement has a point exactly where the old one has one and the piece's rows are met, and does the same there

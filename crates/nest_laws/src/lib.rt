@@ -1,4 +1,5 @@
-//! What the definitions of kernels, pieces and runs mean: each function here carries one law as its contract.
+//! What the definitions of kernels, pieces and runs mean: each function here carries one law as its contract. Worked
+//! instances stand in `worked_laws`, those of runs and scans in `scan_laws`.
 #![tactic(auto)]
 
 mod commands;

@@ -17,7 +17,7 @@ use Rattle.scan_laws.specs.Bounds.{greatest, least}
 use Rattle.scan_laws.specs.Examples.{x, x_sight, x_sizes}
 use Rattle.print_laws.specs.Printed.{AreAsked, none, next, IsSized, greatest_of, least_of}
 use Rattle.print_laws.specs.Laws.{AllAreTrue, OrderedTestsHaveAnswer, NestedBoundsHaveValue, LevelKeepsToSize}
-use Rattle.print_laws.specs.Examples.{test, tests, WorkedTests, WorkedBound}
+use Rattle.print_laws.specs.Examples.{test, tests, WorkedTests, WorkedBound, WorkedLevel}
 
 -- ---- tests
 test_is : (s : Sight) (t : Test) (v w : ℤ) → value_of t.left s ≡ Ok v → value_of t.right s ≡ Ok w → holds t s ≡ Ok (compares t.cmp v w)
@@ -103,3 +103,10 @@ worked_tests = (asked, (let r = ordered x_sizes x_sight tests keeps asked in r.1
 
 pub worked_bound : WorkedBound
 worked_bound = (nested x_sizes x_sight (2 ^ 24) (Const (pos 0)) (Var i ∷ []) (pos 0) (pos 1 ∷ []) ((0, const (pos 0), omega arith), ((2 ^ 24, name i, omega arith), tt))).0
+
+pub worked_level : WorkedLevel
+worked_level = (
+  level (negsuc 2) (pos 5) (negsuc 2) 5 (omega arith) (omega arith) (omega (arith, ints)) (omega (arith, ints)),
+  level (negsuc 2) (pos 5) (pos 4) 5 (omega arith) (omega arith) (omega (arith, ints)) (omega (arith, ints)),
+  λ v l u. level (negsuc 2) (pos 5) v 5 (omega arith) (omega arith) l u,
+)

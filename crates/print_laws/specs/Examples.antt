@@ -1,5 +1,5 @@
 -- A worked case: tests around a read, and a bound of two.
-use Rattle.std.specs.Prelude.{◌≡◌, ◌^◌, ℤ, pos, true, List, [], ◌∷◌, Ok}
+use Rattle.std.specs.Prelude.{◌≡◌, ◌≤◌, ◌^◌, ℤ, pos, negsuc, ◌≤ℤ◌, ◌<ℤ◌, unsigned_abs, true, List, [], ◌∷◌, Ok}
 use Rattle.c_tree.specs.declared.index.Index.{Index}
 use Rattle.c_tree.specs.declared.index.Index.TheVariants.{Const, Var, At}
 use Rattle.c_tree.specs.declared.index.Subscripts.TheVariants.{One}
@@ -24,3 +24,7 @@ WorkedTests = AreAsked x_sizes x_sight tests × (all_hold tests x_sight ≡ Ok t
 -- max(0, i) is 1
 abbrev pub WorkedBound : Type 0
 WorkedBound = IsSized x_sizes x_sight (2 ^ 24) (greatest_of (Const (pos 0)) (Var i ∷ [])) (pos 1)
+
+-- for a loop variable from -3 to below 5, the values -3 and 4 have sizes of at most 5
+abbrev pub WorkedLevel : Type 0
+WorkedLevel = (unsigned_abs (negsuc 2) ≤ 5) × (unsigned_abs (pos 4) ≤ 5) × ((v : ℤ) → negsuc 2 ≤ℤ v → v <ℤ pos 5 → unsigned_abs v ≤ 5)

@@ -2,7 +2,7 @@
 #![tactic(auto)]
 
 ghost use Rattle.print_laws.specs.Laws.{OrderedTestsHaveAnswer, NestedBoundsHaveValue, LevelKeepsToSize};
-ghost use Rattle.print_laws.specs.Examples.{WorkedTests, WorkedBound};
+ghost use Rattle.print_laws.specs.Examples.{WorkedTests, WorkedBound, WorkedLevel};
 
 /// Tests that are asked in order have an answer, without a fault.
 pub fn ordered_tests_have_answer()
@@ -27,4 +27,9 @@ pub fn worked_tests()
 /// A bound of two.
 pub fn worked_bound()
     ensures { WorkedBound }
+{}
+
+/// A loop that begins below 0.
+pub fn worked_level()
+    ensures { WorkedLevel }
 {}

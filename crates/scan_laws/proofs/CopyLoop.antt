@@ -1,6 +1,6 @@
 -- The worked cases.
 use Rattle.std.proofs.Common.{◌≡◌, inl, inr, ℕ, suc, ◌+◌, ◌<◌, ◌≤◌, List, [], ◌∷◌, length, refl, sym, ◌∙◌, ap, subst, arith, ℤ, pos, negsuc, ◌+ℤ◌, neg_ℤ, ◌≤ℤ◌, ◌<ℤ◌, int_le, int_lt, nat_le, Bool, true, ◌&&◌}
-use Rattle.std.specs.Prelude.{Ok, Err, if◌then◌else◌}
+use Rattle.std.specs.Prelude.{Ok, Err, if◌then◌else◌, ◌↔◌}
 use Rattle.std.specs.Int.{int_div_euclid}
 use Rattle.std.specs.Ordering.{int_eq}
 use Rattle.std.proofs.lemmas.Bool.{and_from}
@@ -38,10 +38,12 @@ use Rattle.nest_laws.proofs.Running.{executor}
 use Rattle.scan_laws.specs.Printing.{IsPrinted, none, alone, around}
 use Rattle.scan_laws.specs.Bounds.{lowers, uppers}
 use Rattle.scan_laws.specs.Rows.{rest, next, Scanned, own_low, own_high, maker, slots}
-use Rattle.scan_laws.specs.Examples.{from_zero, below_n, copy_nest, copy_input, WorkedExecutor, WorkedPrinting}
+use Rattle.scan_laws.specs.Laws.{AreAtMost, AreAbove}
+use Rattle.scan_laws.specs.Examples.{from_zero, below_n, copy_nest, copy_input, WorkedExecutor, WorkedPrinting, WorkedRows}
+use Rattle.scan_laws.proofs.Bounds.{direct_rows}
 use Rattle.scan_laws.proofs.Fronts.{front-For, front-Assign}
 use Rattle.scan_laws.proofs.Printing.{printed-fine}
-use Rattle.scan_laws.proofs.Scanned.{scanned_list}
+use Rattle.scan_laws.proofs.Scanned.{sound_bounds, scanned_list}
 
 -- ---- what the loop is, and what its parts give
 abbrev copying : Scene → Tree
@@ -49,7 +51,7 @@ copying s =
     turns (λ e. value_of (Const (pos 0)) (bind_all [] e s).sight) (λ e. value_of (Var n) (bind_all [] e s).sight)
     (step (λ e. assigned (at b (Var i)) Write (Load (at c (Var i))) (bind_all (i ∷ []) e s)) end) end
 
-tree_is : (s : Scene) → tree_of copy_loop s ≡ copying s
+pub tree_is : (s : Scene) → tree_of copy_loop s ≡ copying s
 tree_is s =
     front-For s [] end i (Const (pos 0)) (Var n) (Assign (at b (Var i)) Write (Load (at c (Var i))) ∷ [])
     ∙ ap (λ (t : Tree). turns (λ e. value_of (Const (pos 0)) (bind_all [] e s).sight) (λ e. value_of (Var n) (bind_all [] e s).sight) t end)
@@ -58,11 +60,11 @@ tree_is s =
 small-number : (k : ℕ) → k ≤ greatest → judged (plain (pos k)) ≡ Ok (pos k)
 small-number k h = let t : nat_le k greatest ≡ true = grind (arith, h) in rw t refl
 
-value-Const : (s : Sight) → value_of (Const (pos 0)) s ≡ Ok (pos 0)
+pub value-Const : (s : Sight) → value_of (Const (pos 0)) s ≡ Ok (pos 0)
 value-Const s = ap judged_answer (measure-Const (pos 0) s) ∙ small-number 0 (omega arith)
 
 module _ (k : ℕ) (small : k ≤ greatest) where
-  value-n : value_of (Var n) (scene k).sight ≡ Ok (pos k)
+  pub value-n : value_of (Var n) (scene k).sight ≡ Ok (pos k)
   value-n = ap judged_answer (measure-Var n (scene k).sight) ∙ small-number k small
 
   module _ (v : ℕ) (below : v < k) where
@@ -86,13 +88,13 @@ module _ (k : ℕ) (small : k ≤ greatest) where
         ap (λ (a : Answer (List ℤ)). a >>= (λ is. let y : Spot = record { array = x; at = is } in (if inner.inside y then Ok y else Err (Outside x)))) at-i
         ∙ ap (λ (t : Bool). let y : Spot = record { array = x; at = pos v ∷ pos 0 ∷ pos 0 ∷ [] } in (if t then Ok y else Err (Outside x))) is_in
 
-    copied_step : assigned (at b (Var i)) Write (Load (at c (Var i))) inner ≡ Ok ((copied v).step)
+    pub copied_step : assigned (at b (Var i)) Write (Load (at c (Var i))) inner ≡ Ok ((copied v).step)
     copied_step =
         ap (λ (g : Answer Ground). g >>= (λ w. spot (at b (Var i)) inner >>= (λ x. Ok (record { target = x; how = Write; value = w })))) (ground-At (at c (Var i)) inner ∙ ap (λ (a : Answer Spot). a >>= (λ x. Ok (load x))) (spot-is c))
         ∙ ap (λ (a : Answer Spot). a >>= (λ x. Ok (record { target = x; how = Write; value = load (record { array = c; at = pos v ∷ pos 0 ∷ pos 0 ∷ [] }) }))) (spot-is b)
 
   -- the kernel's step is the same
-  kernel_step : (v : ℕ) → act copy_nest (point (copy_input k) copy_nest (pos v ∷ [])) ≡ (copied v).step
+  pub kernel_step : (v : ℕ) → act copy_nest (point (copy_input k) copy_nest (pos v ∷ [])) ≡ (copied v).step
   kernel_step v =
       let q : List ℤ = pos k ∷ pos v ∷ [] in
       let f : value q (record { coefs = pos 0 ∷ pos 1 ∷ []; constant = pos 0 }) ≡ pos v = omega (arith, ints) in
@@ -173,10 +175,7 @@ module _ (k : ℕ) where
 by_one : (v : ℤ) → int_div_euclid v (pos 1) ≡ v
 by_one v = let q : IsInTile (pos 1) (int_div_euclid v (pos 1)) v = quotient_is 0 v in let l = q.low in let h = q.high in omega (arith, ints)
 
-module _ (k : ℕ) (small : k ≤ greatest) where
-  abbrev group : List (Slot (Scanned (copy_input k)))
-  group = record { left = 0 ∷ []; of = copying_statement k } ∷ []
-
+module _ (k : ℕ) where
   low_is : own_low [] (copying_statement k) ≡ pos 0
   unfolding copying_statement
   low_is =
@@ -190,12 +189,16 @@ module _ (k : ℕ) (small : k ≤ greatest) where
       let q = by_one (pos k +ℤ negsuc 0) in
       ap (λ (z : ℤ). int_div_euclid z (pos 1) +ℤ pos 1) r ∙ ap (λ (z : ℤ). z +ℤ pos 1) q ∙ omega (arith, ints)
 
+module _ (k : ℕ) (small : k ≤ greatest) where
+  abbrev group : List (Slot (Scanned (copy_input k)))
+  group = record { left = 0 ∷ []; of = copying_statement k } ∷ []
+
   body_printed : (v : ℤ) → own_low [] (copying_statement k) ≤ℤ v → v <ℤ own_high [] (copying_statement k)
       → IsPrinted (maker (copy_input k) (λ group e. true)) (step (λ e. assigned (at b (Var i)) Write (Load (at c (Var i))) (bind_all (i ∷ []) e (scene k))) end) group 0 (v ∷ [])
   unfolding copying_statement
-  body_printed (negsuc w) l u = absurd (let z = low_is in omega (arith, ints))
+  body_printed (negsuc w) l u = absurd (let z = low_is k in omega (arith, ints))
   body_printed (pos w) l u =
-      let z = high_is in
+      let z = high_is k in
       let below : w < k = omega (arith, ints) in
       alone (λ e. assigned (at b (Var i)) Write (Load (at c (Var i))) (bind_all (i ∷ []) e (scene k))) end (copying_statement k) [] 0 (pos w ∷ []) refl
       (copied_step k small w below ∙ ap (λ (t : Step). let a : Answer Step = Ok t in a) (sym (kernel_step k small w))) (none 1 (pos w ∷ []))
@@ -210,7 +213,7 @@ module _ (k : ℕ) (small : k ≤ greatest) where
       (around (λ e. value_of (Const (pos 0)) (bind_all [] e (scene k)).sight) (λ e. value_of (Var n) (bind_all [] e (scene k)).sight)
       (step (λ e. assigned (at b (Var i)) Write (Load (at c (Var i))) (bind_all (i ∷ []) e (scene k))) end) end group [] 0 []
       (and_from (int_eq (own_low [] (copying_statement k)) (own_low [] (copying_statement k)) && int_eq (own_high [] (copying_statement k)) (own_high [] (copying_statement k))) true all_bounds refl)
-      (λ s a p. some_left s a p) (value-Const (scene k).sight ∙ ap (λ (z : ℤ). let a : Answer ℤ = Ok z in a) (sym low_is)) (value-n k small ∙ ap (λ (z : ℤ). let a : Answer ℤ = Ok z in a) (sym high_is))
+      (λ s a p. some_left s a p) (value-Const (scene k).sight ∙ ap (λ (z : ℤ). let a : Answer ℤ = Ok z in a) (sym (low_is k))) (value-n k small ∙ ap (λ (z : ℤ). let a : Answer ℤ = Ok z in a) (sym (high_is k)))
       body_printed (none 1 []))
     where
       some_left : (s : Slot (Scanned (copy_input k))) → IsIn s group → s.left ≡ [] → ⊥
@@ -220,9 +223,9 @@ module _ (k : ℕ) (small : k ≤ greatest) where
 pub worked_printing : WorkedPrinting
 unfolding copying_statement
 worked_printing k small = (
-  copying_statement k,
-  refl,
-  copy_printed k small,
+  λ group s e v vs ok a d h. refl,
+  sound_bounds (copy_input k) (λ group e. true) (λ group s e v vs ok a d h. refl),
+  (copying_statement k, refl, copy_printed k small),
   scanned_list (copy_input k) (copying_statement k ∷ []) (λ group e. true) copy_loop (scene k) (λ group s e v vs ok a d h. refl) (copy_printed k small),
 )
 
@@ -234,3 +237,22 @@ unfolding copying_statement
 worked_executor d =
     let fine = printed-fine (maker (copy_input 2) (λ group e. true)) (tree_of copy_loop (scene 2)) (slots (copying_statement 2 ∷ [])) 0 [] (copy_printed 2 two_small) in
     (fine, ap (λ (l : Listing). l.items) (sym (executor copy_loop (scene 2) d fine).0 ∙ copies))
+
+pub worked_rows : WorkedRows
+unfolding copying_statement
+worked_rows k v = (
+  λ r a. bound_cases r (λ s. IsDirect 2 1 [] s.form) a (direct-zero k) (direct-n k),
+  (
+    λ h. (
+        let b = law.0 h in
+        (subst (λ (z : ℤ). z ≤ℤ v) (low_is k) (b.0 (own_low [] (copying_statement k)) (inl refl)), subst (λ (z : ℤ). v <ℤ z) (high_is k) (b.1 (own_high [] (copying_statement k)) (inl refl)))),
+    λ b. law.1 (
+      λ z a. elim a [ inl e ↦ subst (λ (y : ℤ). y ≤ℤ v) (sym (e ∙ low_is k)) b.0 | inr x ↦ absurd x ],
+      λ z a. elim a [ inl e ↦ subst (λ (y : ℤ). v <ℤ y) (sym (e ∙ high_is k)) b.1 | inr x ↦ absurd x ],
+    ),
+  ),
+)
+  where
+    law : ((r : Row) → IsIn r (from_zero ∷ below_n ∷ []) → MeetsRow (point (copy_input k) copy_nest (v ∷ [])) r)
+        ↔ (AreAtMost (lowers (next (copy_input k) []) (rest (copy_input k) copy_nest []) (from_zero ∷ below_n ∷ [])) v × AreAbove (uppers (next (copy_input k) []) (rest (copy_input k) copy_nest []) (from_zero ∷ below_n ∷ [])) v)
+    law = direct_rows (copy_input k) copy_nest (from_zero ∷ below_n ∷ []) [] v [] refl (λ r a. bound_cases r (λ s. IsDirect 2 1 [] s.form) a (direct-zero k) (direct-n k))

@@ -7,3 +7,4 @@ pub mod Fronts
 pub mod CopyLoop
 pub mod WorkedScan
 pub mod WorkedParts
+pub mod WorkedAlone

@@ -23,10 +23,10 @@ use Rattle.scan_laws.specs.Examples.{copy_nest, copy_input, WorkedScan}
 use Rattle.scan_laws.proofs.Scanned.{all_in, at_most-test, test-at_most, test-same}
 
 -- ---- a test of a row, exact where there are no index arrays
-abbrev is_zero : ℤ → Bool
+abbrev pub is_zero : ℤ → Bool
 is_zero z = int_eq z (pos 0)
 
-abbrev holds_test : Bool → ℤ → Bool
+abbrev pub holds_test : Bool → ℤ → Bool
 holds_test true v = int_eq v (pos 0)
 holds_test false v = int_le (pos 0) v
 
@@ -57,7 +57,7 @@ module _ (k : ℕ) where
   none_found : (w : ℕ) (n : Nest) (q : List ℤ) (j : ℕ) → IsFound (copy_input k) w n.terms q j → ⊥
   none_found w n q _ (found j t v at is h) = cc
 
-  abbrev row_test : Nest → Levels → KernelRow → Bool
+  abbrev pub row_test : Nest → Levels → KernelRow → Bool
   row_test n vs r = list_all is_zero (drop (1 + length vs) ((r.row).form).coefs) && holds_test (r.row).equal (value (point (copy_input k) n vs) (r.row).form)
 
   met-test : (n : Nest) (vs : Levels) (r : KernelRow) → IsMet (copy_input k) n vs r → row_test n vs r ≡ true
@@ -74,18 +74,18 @@ module _ (k : ℕ) where
         holds = test-holds (r.row).equal (value (point (copy_input k) n vs) (r.row).form) p.1;
       }
 
-  all_met : (n : Nest) (vs : Levels) (rows : List KernelRow) → ((r : KernelRow) → IsIn r rows → IsMet (copy_input k) n vs r) → list_all (row_test n vs) rows ≡ true
+  pub all_met : (n : Nest) (vs : Levels) (rows : List KernelRow) → ((r : KernelRow) → IsIn r rows → IsMet (copy_input k) n vs r) → list_all (row_test n vs) rows ≡ true
   all_met n vs [] h = refl
   all_met n vs (r ∷ rows) h = and_from (row_test n vs r) (list_all (row_test n vs) rows) (met-test n vs r (h r (inl refl))) (all_met n vs rows (λ s a. h s (inr a)))
 
   -- ---- the groups that are made: statements with the two rows, inside no loop
-  abbrev is_form : List ℤ → ℤ → ℤ → Bool
+  abbrev pub is_form : List ℤ → ℤ → ℤ → Bool
   is_form [] a b = false
   is_form (x ∷ []) a b = false
   is_form (x ∷ y ∷ []) a b = int_eq x a && int_eq y b
   is_form (x ∷ y ∷ z ∷ zs) a b = false
 
-  abbrev row_is : ℤ → ℤ → ℤ → KernelRow → Bool
+  abbrev pub row_is : ℤ → ℤ → ℤ → KernelRow → Bool
   row_is a b c r = not (r.row).equal && (is_form ((r.row).form).coefs a b && int_eq ((r.row).form).constant c)
 
   form-value : (cs : List ℤ) (a b v : ℤ) (ts : List ℤ) → is_form cs a b ≡ true → dot cs (pos k ∷ v ∷ ts) ≡ (a *ℤ pos k) +ℤ (b *ℤ v)
@@ -113,10 +113,10 @@ module _ (k : ℕ) where
   any_in p [] h = absurd cc
   any_in p (x ∷ xs) h = elim (or_cases (p x) (list_any p xs) h) [ inl e ↦ (x, inl refl, e) | inr e ↦ (let w = any_in p xs e in (w.0, inr w.1, w.2)) ]
 
-  abbrev has_rows : Nest → Bool
+  abbrev pub has_rows : Nest → Bool
   has_rows n = list_any (row_is (pos 0) (pos 1) (pos 0)) n.rows && list_any (row_is (pos 1) (negsuc 0) (negsuc 0)) n.rows
 
-  abbrev is_outermost : Levels → Bool
+  abbrev pub is_outermost : Levels → Bool
   is_outermost [] = true
   is_outermost (v ∷ vs) = false
 
@@ -130,7 +130,7 @@ module _ (k : ℕ) where
       let y = row-value (pos 1) (negsuc 0) (negsuc 0) b.0 v ts b.2 (m b.0 b.1).holds in
       (omega (arith, ints), omega (arith, ints))
 
-  abbrev by_rows : Maker Nest Step
+  abbrev pub by_rows : Maker Nest Step
   by_rows = record {
     low = λ group e. pos 0;
     high = λ group e. pos k;
@@ -140,7 +140,7 @@ module _ (k : ℕ) where
     allowed = λ group e. is_outermost e && list_all (λ s. has_rows s.of) group;
   }
 
-  sound : IsSoundMaker by_rows (MeetsRows (copy_input k)) (λ s e. true)
+  pub sound : IsSoundMaker by_rows (MeetsRows (copy_input k)) (λ s e. true)
   sound = record {
     bounds = λ group s e v vs ok a d h. outermost group s e v vs ok a h;
     ready = λ group s e v vs ok a d h. refl;

@@ -14,7 +14,8 @@ use Rattle.nest_tree.specs.declared.kernel.Nest.{Nest}
 use Rattle.nest_tree.specs.declared.kernel.Term.{Term}
 use Rattle.nest_tree.specs.declared.body.Body.TheVariants.{At as Read}
 use Rattle.nest_tree.specs.declared.form.Form.TheVariants.{Other}
-use Rattle.nest_tree.specs.Forms.{value}
+use Rattle.nest_tree.specs.Lists.{IsIn}
+use Rattle.nest_tree.specs.Forms.{value, MeetsRow}
 use Rattle.nest_tree.specs.Terms.{Input, IsCut, IsDirect, with_terms}
 use Rattle.nest_tree.specs.Loops.{Levels, Loops, performed}
 use Rattle.nest_tree.specs.Kernels.{point, IsKernelList}
@@ -24,7 +25,7 @@ use Rattle.nest_laws.specs.Trees.{IsFine, without_faults, tree_of}
 use Rattle.nest_laws.specs.RunLaws.{as_items, MeetsRows, slots_of}
 use Rattle.nest_laws.specs.Weights.{Sizes, KeepsTo, HasSize}
 use Rattle.scan_laws.specs.Printing.{IsPrinted}
-use Rattle.scan_laws.specs.Rows.{Scanned, maker, slots}
+use Rattle.scan_laws.specs.Rows.{Scanned, maker, is_known, IsFull, IsReadyWhereNeeded, slots}
 use Rattle.scan_laws.specs.Laws.{HasKernelList}
 
 abbrev pub form : List ℤ → ℤ → Aff
@@ -62,11 +63,23 @@ abbrev pub WorkedExecutor : Type 0
 WorkedExecutor =
     (d : Step) → IsFine (tree_of copy_loop (scene 2)) [] × (as_items (performed (without_faults d (tree_of copy_loop (scene 2))) [] 0) ≡ copied 0 ∷ copied 1 ∷ [])
 
--- the loop is printed for its kernel, by bounds from its two rows and without a test
+-- bounds that are made from its two rows are sound, and the loop is printed for its kernel by them, without a test
 abbrev pub WorkedPrinting : Type 0
 WorkedPrinting =
-    (k : ℕ) → k ≤ greatest → (s : Scanned (copy_input k)) × (s.nest ≡ copy_nest) × IsPrinted (maker (copy_input k) (λ group e. true)) (tree_of copy_loop (scene k)) (slots (s ∷ [])) 0 []
-    × HasKernelList (copy_input k) (copy_nest ∷ []) copy_loop (scene k)
+    (k : ℕ) → k ≤ greatest → IsReadyWhereNeeded (copy_input k) (λ group e. true) × IsSoundMaker (maker (copy_input k) (λ group e. true)) IsFull is_known
+    × ((s : Scanned (copy_input k)) × (s.nest ≡ copy_nest) × IsPrinted (maker (copy_input k) (λ group e. true)) (tree_of copy_loop (scene k)) (slots (s ∷ [])) 0 []) × HasKernelList (copy_input k) (copy_nest ∷ []) copy_loop (scene k)
+
+-- it is also printed by the bounds 0 and k and a test of the rows, which is true in each turn, so the assignment stands without it
+abbrev pub WorkedAlone : Type 0
+WorkedAlone =
+    (k : ℕ) → k ≤ greatest → (m : Maker Nest Step) × (known : Slot Nest → Levels → Bool) × IsSoundMaker m (MeetsRows (copy_input k)) known × ((n : Nest) (vs : Levels) → m.step n vs ≡ act n (point (copy_input k) n vs))
+    × ((s : Slot Nest) → IsTrue (known s [])) × IsPrinted m (tree_of copy_loop (scene k)) (slots_of (copy_nest ∷ [])) 0 [] × HasKernelList (copy_input k) (copy_nest ∷ []) copy_loop (scene k)
+
+-- its two rows hold at a value exactly where that is at least 0 and below k
+abbrev pub WorkedRows : Type 0
+WorkedRows =
+    (k : ℕ) (v : ℤ) → ((r : Row) → IsIn r (from_zero ∷ below_n ∷ []) → IsDirect 2 1 [] r.form)
+    × (((r : Row) → IsIn r (from_zero ∷ below_n ∷ []) → MeetsRow (point (copy_input k) copy_nest (v ∷ [])) r) ↔ ((pos 0 ≤ℤ v) × (v <ℤ pos k)))
 
 -- a maker and loops that meet what is asked of a scan, for the kernel of that loop
 abbrev pub WorkedScan : Type 0

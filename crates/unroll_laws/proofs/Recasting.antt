@@ -20,8 +20,10 @@ use Rattle.nest_laws.proofs.Lists.{pair_of-first, pair_of-second, pair_at-first,
 use Rattle.nest_laws.proofs.Forms.{value-variables}
 use Rattle.nest_laws.proofs.Points.{length-map}
 use Rattle.nest_laws.proofs.Rewriting.{last_variables}
-use Rattle.nest_laws.proofs.Terms.{term_values_hold, only_values, rounds-length}
-use Rattle.unroll_laws.specs.Recasting.{Recasts, RecastsTerm, RecastsRow, SaysSame, IsHeld, named, inside, HaveSomeRanks, HoldsTerm, old_width, new_width, IsRecast}
+use Rattle.nest_laws.specs.KernelLaws.{HaveSomeRanks}
+use Rattle.nest_laws.proofs.Terms.{rounds-length}
+use Rattle.nest_laws.proofs.Laws.{readings}
+use Rattle.unroll_laws.specs.Recasting.{Recasts, RecastsTerm, RecastsRow, SaysSame, IsHeld, named, inside, HoldsTerm, old_width, new_width, IsRecast}
 
 -- a form's terms are found where a row that holds them is readable
 held-found : (i : Input) (width : ℕ) (terms : List Term) (q : List ℤ) (f : Aff) → IsReadable i width terms q f → (j : ℕ) → IsHeld width terms f j → IsFound i width terms q j
@@ -35,17 +37,6 @@ held-found i width terms q f h _ (inside k j t g a at b n) = of_argument k (held
 
     of_argument : (k : ℕ) → IsFound i width terms q k → IsAt k t terms → IsFound i width terms q j
     of_argument _ (found k u v is e args) at = args g j (subst (λ (x : Term). IsIn g x.at) (one_at k t u terms at is) b) n
-
--- the terms' values are what the terms read at them, and there are no others
-values_hold : (i : Input) (terms : List Term) (p : List ℤ) → HaveSomeRanks (length p) terms → term_values i terms p ≡ map (reading i (p ++ term_values i terms p)) terms
-values_hold i [] p h = refl
-values_hold i (t ∷ ts) p (inl e) = absurd (omega (arith, e))
-values_hold i (t ∷ ts) p (inr k) = term_values_hold i (t ∷ ts) p k.0 k.1
-
-values_only : (i : Input) (terms : List Term) (p : List ℤ) → HaveSomeRanks (length p) terms → (us : List ℤ) → us ≡ map (reading i (p ++ us)) terms → us ≡ term_values i terms p
-values_only i [] p h us e = e
-values_only i (t ∷ ts) p (inl z) us e = absurd (omega (arith, z))
-values_only i (t ∷ ts) p (inr k) us e = only_values i (t ∷ ts) p k.0 k.1 us e
 
 module _ (i : Input) (marked : ℕ → Bool) (m : Move) (r : IsRecast (length i.params) marked m) where
   abbrev olds : List Aff
@@ -163,8 +154,8 @@ module _ (i : Input) (marked : ℕ → Bool) (m : Move) (r : IsRecast (length i.
       let o : length (i.params ++ vs) ≡ old_width (length i.params) m = length-append i.params vs ∙ ap (λ (n : ℕ). length i.params + n) v in
       let at : map (value ((i.params ++ ws) ++ ts)) olds ≡ (i.params ++ vs) ++ ts =
       ap (λ (l : List ℤ). map (value l) olds) (append_assoc i.params ws ts) ∙ olds_at ws ts e (count_new ws) ∙ ap (λ (l : List ℤ). i.params ++ (l ++ ts)) h ∙ sym (append_assoc i.params vs ts) in
-      sym (values_only i (m.old).terms (i.params ++ vs) (subst (λ (w : ℕ). HaveSomeRanks w (m.old).terms) (sym o) r.old_ranks) ts
-      (values_hold i (m.new).terms (i.params ++ ws) (subst (λ (w : ℕ). HaveSomeRanks w (m.new).terms) (sym d) r.new_ranks) ∙ readings_say ((i.params ++ ws) ++ ts) ((i.params ++ vs) ++ ts) at))
+      sym ((readings i (m.old).terms (i.params ++ vs) (subst (λ (w : ℕ). HaveSomeRanks w (m.old).terms) (sym o) r.old_ranks)).1 ts
+      ((readings i (m.new).terms (i.params ++ ws) (subst (λ (w : ℕ). HaveSomeRanks w (m.new).terms) (sym d) r.new_ranks)).0 ∙ readings_say ((i.params ++ ws) ++ ts) ((i.params ++ vs) ++ ts) at))
 
   -- and where the forms have the old levels' values with the old terms' values, the new terms have these
   pub new_values : (ws vs : List ℤ) → length ws ≡ length (m.piece).levels → map (value (i.params ++ (ws ++ old_terms vs))) (m.piece).old ≡ vs → new_terms ws ≡ old_terms vs
@@ -175,8 +166,8 @@ module _ (i : Input) (marked : ℕ → Bool) (m : Move) (r : IsRecast (length i.
       let o : length (i.params ++ vs) ≡ old_width (length i.params) m = length-append i.params vs ∙ ap (λ (n : ℕ). length i.params + n) v in
       let at : map (value ((i.params ++ ws) ++ ts)) olds ≡ (i.params ++ vs) ++ ts =
       ap (λ (l : List ℤ). map (value l) olds) (append_assoc i.params ws ts) ∙ olds_at ws ts e (count_old vs) ∙ ap (λ (l : List ℤ). i.params ++ (l ++ ts)) h ∙ sym (append_assoc i.params vs ts) in
-      sym (values_only i (m.new).terms (i.params ++ ws) (subst (λ (w : ℕ). HaveSomeRanks w (m.new).terms) (sym d) r.new_ranks) ts
-      (values_hold i (m.old).terms (i.params ++ vs) (subst (λ (w : ℕ). HaveSomeRanks w (m.old).terms) (sym o) r.old_ranks) ∙ sym (readings_say ((i.params ++ ws) ++ ts) ((i.params ++ vs) ++ ts) at)))
+      sym ((readings i (m.new).terms (i.params ++ ws) (subst (λ (w : ℕ). HaveSomeRanks w (m.new).terms) (sym d) r.new_ranks)).1 ts
+      ((readings i (m.old).terms (i.params ++ vs) (subst (λ (w : ℕ). HaveSomeRanks w (m.old).terms) (sym o) r.old_ranks)).0 ∙ sym (readings_say ((i.params ++ ws) ++ ts) ((i.params ++ vs) ++ ts) at)))
 
   pub point_is : (ws vs : List ℤ) → length ws ≡ length (m.piece).levels → map (value (point i m.new ws)) (m.piece).old ≡ vs → map (value (point i m.new ws)) olds ≡ point i m.old vs
   point_is ws vs e h =

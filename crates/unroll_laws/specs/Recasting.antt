@@ -6,9 +6,9 @@ use Rattle.nest_tree.specs.declared.kernel.Term.{Term}
 use Rattle.nest_tree.specs.declared.kernel.KernelRow.{KernelRow}
 use Rattle.nest_tree.specs.Lists.{IsIn, IsAt, Pairwise}
 use Rattle.nest_tree.specs.Forms.{Names}
-use Rattle.nest_tree.specs.Terms.{HaveRanks}
 use Rattle.nest_tree.specs.Moving.{Move}
 use Rattle.nest_tree.specs.Rewriting.{old_variables, HasValue, SaysAccess, SaysBody}
+use Rattle.nest_laws.specs.KernelLaws.{HaveSomeRanks}
 
 -- a form of the new variables has an old form's value, and names the same terms but for those that are marked
 pub record Recasts (marked : ℕ → Bool) (olds : List Aff) (old_width new_width : ℕ) (f g : Aff) : Type 0 where
@@ -40,10 +40,6 @@ old_width params m = params + length (m.old).levels
 
 abbrev pub new_width : ℕ → Move → ℕ
 new_width params m = params + length (m.piece).levels
-
--- no term holds itself, if there are terms
-abbrev pub HaveSomeRanks : ℕ → List Term → Type 0
-HaveSomeRanks width terms = (length terms ≡ 0) ⊎ ((rank : ℕ → ℕ) × HaveRanks width terms rank)
 
 -- some row of the list holds the term
 abbrev pub HoldsTerm : ℕ → List Term → List KernelRow → ℕ → Type 0

@@ -8,7 +8,7 @@ use Rattle.nest_tree.specs.Places.{Item, Precedes}
 use Rattle.nest_tree.specs.Unrolling.{full, rest, IsUnrolled}
 use Rattle.nest_laws.proofs.Acts.{ground-At, ground-Const}
 use Rattle.nest_laws.proofs.Places.{order_of_places}
-use Rattle.worked_lists.specs.Lists.{stencil_list, to_nine, copied_list, triangle_list, fused_list, SkewedStencil, UnrolledCopies, InCopy, InRest, CopiedBox, PermutedTriangle, FusedLoops}
+use Rattle.worked_lists.specs.Lists.{stencil_list, to_nine, copied_list, whole_array_list, triangle_list, fused_list, SkewedStencil, UnrolledCopies, InCopy, InRest, CopiedBox, CopiedArray, PermutedTriangle, FusedLoops}
 
 -- each item stands before the next one
 abbrev IsChain : Item Step → List (Item Step) → Type 0
@@ -55,6 +55,12 @@ box = (
       ),
     ),
   ),
+)
+
+pub array : CopiedArray
+array = (
+  simp (ground-At, ground-Const),
+  chain-sorted (first whole_array_list) (behind whole_array_list) (inr (refl, inl (omega (arith, ints))), (inr (refl, inl (omega (arith, ints))), (inr (refl, inl (omega (arith, ints))), (inr (refl, inl (omega (arith, ints))), (inr (refl, inl (omega (arith, ints))), (inr (refl, inl (omega (arith, ints))), (inr (refl, inl (omega (arith, ints))), (inl (omega (arith, ints)), (inr (refl, inl (omega (arith, ints))), (inr (refl, inl (omega (arith, ints))), (inr (refl, inl (omega (arith, ints))), (inr (refl, inl (omega (arith, ints))), (inr (refl, inl (omega (arith, ints))), (inr (refl, inl (omega (arith, ints))), (inr (refl, inl (omega (arith, ints))), tt))))))))))))))),
 )
 
 pub triangle : PermutedTriangle

@@ -1,15 +1,17 @@
 -- Worked lists: what the definitions give, item by item, beside the list that is wanted.
-use Rattle.std.specs.Prelude.{◌≡◌, ℕ, List, [], ◌∷◌, ◌++◌, map, take, ℤ, pos, negsuc}
-use Rattle.c_meaning.specs.Ground.{Step}
+use Rattle.std.specs.Prelude.{◌≡◌, ℕ, List, [], ◌∷◌, ◌++◌, map, take, length, ℤ, pos, negsuc}
+use Rattle.c_tree.specs.declared.statement.How.TheVariants.{Write}
+use Rattle.c_meaning.specs.Ground.{load, Step}
 use Rattle.nest_tree.specs.declared.kernel.Nest.{Nest}
 use Rattle.nest_tree.specs.declared.body.Body.TheVariants.{Const, At}
 use Rattle.nest_tree.specs.Lists.{IsStrictlySorted}
 use Rattle.nest_tree.specs.Places.{place, Item, Precedes}
+use Rattle.nest_tree.specs.Terms.{Input}
 use Rattle.nest_tree.specs.Kernels.{point}
 use Rattle.nest_tree.specs.Levels.{permuted, skewed}
 use Rattle.nest_tree.specs.Unrolling.{Upper, Part, full, rest, IsUnrolled}
-use Rattle.nest_laws.specs.Acts.{act}
-use Rattle.copy_laws.specs.Copying.{Copying, base_at, moved, step_in_copy}
+use Rattle.nest_laws.specs.Acts.{three, act}
+use Rattle.copy_laws.specs.Copying.{Copying, base_at, less_by, moved, step_in_copy}
 use Rattle.worked_lists.specs.Statements.{b, c, d, e, x, form, access, writing, input, line, grid, gets, is_set, at_place}
 
 -- b[i][j] = b[i-1][j+1], over the variables n, m, i, j
@@ -73,14 +75,24 @@ reader = writing (0 ∷ 0 ∷ 0 ∷ []) (access d (form (pos 0 ∷ pos 0 ∷ pos
 abbrev pub box_of_x : Copying
 box_of_x = record { array = x; copy = e; front = 0 ∷ []; at = 0; base = form [] (pos 0) ∷ []; box = writing (0 ∷ 0 ∷ 0 ∷ []) (access e []) (Const 0); reader = reader; others = [] }
 
+-- a cell of the box as it is copied, and an item of the reader
+abbrev pub copied_cell : Input → Copying → List ℤ → List ℤ → Item Step
+copied_cell i k outer cell = record {
+  place = place (k.box).positions (outer ++ cell);
+  step = record { target = record { array = k.copy; at = less_by (three cell) (base_at i k outer) }; how = Write; value = load (record { array = k.array; at = three cell }) };
+}
+
+abbrev pub read_in_copy : Input → Copying → List ℤ → Item Step
+read_in_copy i k vs = record {
+  place = place (moved k.front k.at (k.reader).positions) vs;
+  step = step_in_copy k (base_at i k (take (length k.front) vs)) (act k.reader (point i k.reader vs));
+}
+
 abbrev pub copied_at : ℤ → Item Step
-copied_at t = record { place = place (0 ∷ 0 ∷ 0 ∷ []) (t ∷ pos 0 ∷ []); step = record { target = line e (pos 0); how = (act reader (pos 5 ∷ t ∷ pos 0 ∷ [])).how; value = (act reader (pos 5 ∷ t ∷ pos 0 ∷ [])).value } }
+copied_at t = copied_cell (input (pos 5 ∷ [])) box_of_x (t ∷ []) (pos 0 ∷ [])
 
 abbrev pub read_at : ℤ → ℤ → Item Step
-read_at t v = record {
-  place = place (moved (0 ∷ []) 0 (0 ∷ 0 ∷ 0 ∷ [])) (t ∷ v ∷ []);
-  step = step_in_copy box_of_x (base_at (input (pos 5 ∷ [])) box_of_x (take 1 (t ∷ v ∷ []))) (act reader (point (input (pos 5 ∷ [])) reader (t ∷ v ∷ [])));
-}
+read_at t v = read_in_copy (input (pos 5 ∷ [])) box_of_x (t ∷ v ∷ [])
 
 abbrev pub copied_list : List (Item Step)
 copied_list =
@@ -98,6 +110,30 @@ abbrev pub CopiedBox : Type 0
 CopiedBox =
     (copied_at (pos 0) ∷ read_at (pos 0) (pos 0) ∷ read_at (pos 0) (pos 1) ∷ read_at (pos 0) (pos 2) ∷ read_at (pos 0) (pos 3) ∷ copied_at (pos 1) ∷ read_at (pos 1) (pos 4) ∷ [] ≡ copied_list)
     × IsStrictlySorted Precedes copied_list
+
+-- d[i] = c[i], over i from 0 to 7; e is a copy of all of c, made before the loop
+abbrev pub whole_array : Copying
+whole_array = record {
+  array = c;
+  copy = e;
+  front = [];
+  at = 0;
+  base = form [] (pos 0) ∷ [];
+  box = writing (0 ∷ 0 ∷ []) (access e []) (Const 0);
+  reader = writing (0 ∷ 0 ∷ []) (access d (form (pos 1 ∷ []) (pos 0) ∷ [])) (At (access c (form (pos 1 ∷ []) (pos 0) ∷ [])));
+  others = [];
+}
+
+abbrev pub to_seven : List ℤ
+to_seven = pos 0 ∷ pos 1 ∷ pos 2 ∷ pos 3 ∷ pos 4 ∷ pos 5 ∷ pos 6 ∷ pos 7 ∷ []
+
+abbrev pub whole_array_list : List (Item Step)
+whole_array_list = map (λ v. gets (pos 0 ∷ v ∷ pos 0 ∷ []) (line e v) (line c v)) to_seven ++ map (λ v. gets (pos 1 ∷ v ∷ pos 0 ∷ []) (line d v) (line e v)) to_seven
+
+abbrev pub CopiedArray : Type 0
+CopiedArray =
+    (map (λ v. copied_cell (input []) whole_array [] (v ∷ [])) to_seven ++ map (λ v. read_in_copy (input []) whole_array (v ∷ [])) to_seven ≡ whole_array_list)
+    × IsStrictlySorted Precedes whole_array_list
 
 -- b[i][j] = c[j], over n, i, j
 abbrev pub triangle : Nest

@@ -1,7 +1,7 @@
 //! Worked lists: what the definitions of commands give on small inputs. Each function here carries one as its contract.
 #![tactic(auto)]
 
-ghost use Rattle.worked_lists.specs.Lists.{SkewedStencil, UnrolledCopies, CopiedBox, PermutedTriangle, FusedLoops};
+ghost use Rattle.worked_lists.specs.Lists.{SkewedStencil, UnrolledCopies, CopiedBox, CopiedArray, PermutedTriangle, FusedLoops};
 
 /// A stencil under `skew` and `permute`.
 pub fn skewed_stencil()
@@ -16,6 +16,11 @@ pub fn unrolled_copies()
 /// A read cell under `tile` and `datacopy`.
 pub fn copied_box()
     ensures { CopiedBox }
+{}
+
+/// A whole array under `datacopy`.
+pub fn copied_array()
+    ensures { CopiedArray }
 {}
 
 /// A triangular nest under `permute`.
