@@ -35,7 +35,7 @@ digits r R g u h = by _ refl
         no true false x y = refl
         no false d x y = refl
 
-same_pos : (m n : ℕ) → same (pos m) (pos n) ≡ nat_eq m n
+pub same_pos : (m n : ℕ) → same (pos m) (pos n) ≡ nat_eq m n
 same_pos m n = grind (arith, ints)
 
 -- sums over entries, and over what a form makes of them

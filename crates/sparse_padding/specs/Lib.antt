@@ -1,4 +1,7 @@
 pub mod Products
 pub mod Positions
 pub mod Laws
+pub mod Bodies
+pub mod BodyLaws
 pub mod Examples
+pub mod Spmv
