@@ -1,2 +1,5 @@
 pub mod Sums
+pub mod Bodies
+pub mod PaddedCells
 pub mod Examples
+pub mod Spmv
