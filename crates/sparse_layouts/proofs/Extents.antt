@@ -57,15 +57,18 @@ has_met a i j (suc n) h l = has_append (a.group i) (a.value i j) (met_before a n
     by true e f = or_left _ _ (f (grind (arith, e)) l)
     by false e f = or_right _ _ (here n (grind (arith, e, h)))
 
+pub entry_kept : (f : Form) (rest : Entry → List ℤ) (m : Csr) (i j : ℕ) → i < m.rows → j < count m i
+    → is_among (value_at f i (m.col (m.first i + j))) (kept (group_by f.rows i) (map (placed f rest) (entries m))) ≡ true
+entry_kept f rest m i j h l =
+    let a : has (group_by f.rows i) (value_at f i (m.col (m.first i + j))) (map (placed f rest) (entries m)) ≡ true =
+        subst (λ es. has (group_by f.rows i) (value_at f i (m.col (m.first i + j))) es ≡ true) (met_is f rest m m.rows) (has_met (walk f rest m) i j m.rows h l) in
+    (keeps_each (group_by f.rows i) (map (placed f rest) (entries m))).complete (value_at f i (m.col (m.first i + j))) ∙ a
+
 stored_in : (f : Form) (rest : Entry → List ℤ) (m : Csr) (i j : ℕ) → i < m.rows → j < count m i
     → position (group_by f.rows i) (value_at f i (m.col (m.first i + j))) (map (placed f rest) (entries m)) < values_extent f rest m
 stored_in f rest m i j h l =
-    let a : has (group_by f.rows i) (value_at f i (m.col (m.first i + j))) (map (placed f rest) (entries m)) ≡ true =
-        subst (λ es. has (group_by f.rows i) (value_at f i (m.col (m.first i + j))) es ≡ true) (met_is f rest m m.rows) (has_met (walk f rest m) i j m.rows h l) in
-    let k : is_among (value_at f i (m.col (m.first i + j))) (kept (group_by f.rows i) (map (placed f rest) (entries m))) ≡ true =
-        (keeps_each (group_by f.rows i) (map (placed f rest) (entries m))).complete (value_at f i (m.col (m.first i + j))) ∙ a in
     subst (λ n. position (group_by f.rows i) (value_at f i (m.col (m.first i + j))) (map (placed f rest) (entries m)) < n) (sym (extent_is f rest m))
-    ((stands_at (map (placed f rest) (entries m))).inside (group_by f.rows i) (groups f m) (value_at f i (m.col (m.first i + j))) (group_in f.rows i m.rows h) k)
+    ((stands_at (map (placed f rest) (entries m))).inside (group_by f.rows i) (groups f m) (value_at f i (m.col (m.first i + j))) (group_in f.rows i m.rows h) (entry_kept f rest m i j h l))
 
 -- a cell on which no entry falls stays 0
 and_false : (b c : Bool) → c ≡ false → (b && c) ≡ false

@@ -155,7 +155,7 @@ first_rises m c i (suc n) h l = by _ refl (first_rises m c i n)
     by false e f = let q : suc n ≡ i = just_above i n e h in subst (λ i. m.first i ≤ m.first (suc n)) q (omega arith)
 
 -- the column of an entry
-entry_column : (m : Csr) → IsCsr m → (i s : ℕ) → i < m.rows → s < count m i → m.col (m.first i + s) < m.cols
+pub entry_column : (m : Csr) → IsCsr m → (i s : ℕ) → i < m.rows → s < count m i → m.col (m.first i + s) < m.cols
 entry_column m c i s h l =
     let a : m.first (suc i) ≤ m.first m.rows = first_rises m c (suc i) m.rows h (omega arith) in
     c.column (m.first i + s) (omega (arith, a, l))

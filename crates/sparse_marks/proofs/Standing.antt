@@ -31,7 +31,7 @@ nth_back : (ws vs : List ℤ) (p : ℕ) → nth (ws ++ vs) (length ws + p) ≡ n
 nth_back [] vs p = ap (nth vs) (let e : 0 + p ≡ p = omega arith in e)
 nth_back (w ∷ ws) vs p = ap (nth (w ∷ (ws ++ vs))) (let e : suc (length ws) + p ≡ suc (length ws + p) = omega arith in e) ∙ nth_back ws vs p
 
-nth_standing : (w : ℤ) (ks : List ℤ) → is_among w ks ≡ true → nth ks (standing w ks) ≡ w
+pub nth_standing : (w : ℤ) (ks : List ℤ) → is_among w ks ≡ true → nth ks (standing w ks) ≡ w
 nth_standing w [] h = cc
 nth_standing w (k ∷ ks) h = by _ refl (nth_standing w ks)
   where

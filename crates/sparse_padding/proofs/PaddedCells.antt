@@ -37,11 +37,11 @@ below_upto n (suc k) h = below_append n (λ x. Unit) (upto k) (k ∷ []) (below_
 
 below_filter : (n : ℕ) (test : ℕ → Bool) (ks : List ℕ) → EachBelow n (λ x. Unit) ks → EachBelow n (λ x. test x ≡ true) (filter test ks)
 below_filter n test [] h = tt
-below_filter n test (k ∷ ks) h = by (test k) refl
+below_filter n test (k ∷ ks) h = by (test k) refl (below_filter n test ks h.1)
   where
-    by : (b : Bool) → test k ≡ b → EachBelow n (λ x. test x ≡ true) (cond b (k ∷ filter test ks) (filter test ks))
-    by true e = (((h.0).0, e), below_filter n test ks h.1)
-    by false e = below_filter n test ks h.1
+    by : (b : Bool) → test k ≡ b → EachBelow n (λ x. test x ≡ true) (filter test ks) → EachBelow n (λ x. test x ≡ true) (cond b (k ∷ filter test ks) (filter test ks))
+    by true e f = (((h.0).0, e), f)
+    by false e f = f
 
 module _ (matrix : Spot → Bool) (b : Body) (m : Csr) (s : Cells) where
   hold_append : (cs ds : List Padded) → HoldCells matrix b m s cs → HoldCells matrix b m s ds → HoldCells matrix b m s (cs ++ ds)

@@ -55,8 +55,17 @@ x_low = (omega arith, (omega arith, (omega arith, (omega arith, tt))))
 y_low : AreLow y_cells
 y_low = (omega arith, (omega arith, (omega arith, tt)))
 
-pub over : (m : Csr) (lay : ℕ → ℕ → ℕ → ℕ) (x y : List ℕ) → IsOver is_matrix spmv m (memory m lay x y)
+over : (m : Csr) (lay : ℕ → ℕ → ℕ → ℕ) (x y : List ℕ) → IsOver is_matrix spmv m (memory m lay x y)
 over m lay x y = record { compound = refl; values = λ i j h l. refl; value_in = λ k. refl; outside = λ i j. refl }
+
+pub rows_over : IsOver is_matrix spmv three_by_four (with_rows three_by_four x_cells y_cells)
+rows_over = over three_by_four (λ i j k. row_value three_by_four i j) x_cells y_cells
+
+pub blocks_over : IsOver is_matrix spmv three_by_four (with_blocks three_by_four x_cells y_cells)
+blocks_over = over three_by_four (λ p u v. layout (walk (blocks 2 2) (in_block 2 2) three_by_four) 3 p (pos u ∷ pos v ∷ [])) x_cells y_cells
+
+pub diagonals_over : IsOver is_matrix spmv three_by_four (with_diagonals three_by_four x_cells y_cells)
+diagonals_over = over three_by_four (λ p i k. layout (walk diagonals in_diagonal three_by_four) 3 p (pos i ∷ [])) x_cells y_cells
 
 pub unread : (m : Csr) (i j : ℕ) → IsUnread spmv m i j
 unread m i j = inl refl
@@ -65,10 +74,10 @@ pub rows_numbers : AreNumbers (with_rows three_by_four x_cells y_cells)
 rows_numbers = memory_low three_by_four (λ i j k. row_value three_by_four i j) x_cells y_cells worth_low (λ i j k. if_low _ _ _ (worth_low (three_by_four.first i + j)) positive) x_low y_low
 
 pub blocks_numbers : AreNumbers (with_blocks three_by_four x_cells y_cells)
-blocks_numbers = memory_low three_by_four (λ p u v. layout (walk (blocks 2 2) (in_block 2 2) three_by_four) 3 p (pos u ∷ pos v ∷ [])) x_cells y_cells worth_low (λ p u v. layout_low _ 3 p (pos u ∷ pos v ∷ [])) x_low y_low
+blocks_numbers = memory_low three_by_four (λ p u v. layout (walk (blocks 2 2) (in_block 2 2) three_by_four) 3 p (pos u ∷ pos v ∷ [])) x_cells y_cells worth_low (λ p u v. layout_low (walk (blocks 2 2) (in_block 2 2) three_by_four) 3 p (pos u ∷ pos v ∷ [])) x_low y_low
 
 pub diagonals_numbers : AreNumbers (with_diagonals three_by_four x_cells y_cells)
-diagonals_numbers = memory_low three_by_four (λ p i k. layout (walk diagonals in_diagonal three_by_four) 3 p (pos i ∷ [])) x_cells y_cells worth_low (λ p i k. layout_low _ 3 p (pos i ∷ [])) x_low y_low
+diagonals_numbers = memory_low three_by_four (λ p i k. layout (walk diagonals in_diagonal three_by_four) 3 p (pos i ∷ [])) x_cells y_cells worth_low (λ p i k. layout_low (walk diagonals in_diagonal three_by_four) 3 p (pos i ∷ [])) x_low y_low
 
 pub rows_held : HoldRows is_matrix lay_row three_by_four (with_rows three_by_four x_cells y_cells)
 rows_held = record { held = λ i j h l. refl; cell_in = λ i j. refl }

@@ -4,5 +4,6 @@ pub mod Laws
 pub mod Bodies
 pub mod BodyLaws
 pub mod PaddedCells
+pub mod CellLaws
 pub mod Examples
 pub mod Spmv

@@ -1,5 +1,5 @@
 -- The padded cells of blocks and diagonals, in the order in which they are gone over.
-use Rattle.std.specs.Prelude.{ℕ, ◌+◌, ◌-◌, ◌*◌, ◌/◌, ℤ, pos, negsuc, ◌+ℤ◌, Bool, true, false, List, map, length, nat_eq, nat_lt}
+use Rattle.std.specs.Prelude.{ℕ, ◌+◌, ◌-◌, ◌*◌, ◌/◌, ℤ, pos, negsuc, ◌+ℤ◌, Bool, true, false, ◌&&◌, List, [], ◌∷◌, map, length, if◌then◌else◌, nat_eq, nat_lt}
 use Rattle.std.specs.List.{filter, flat_map}
 use Rattle.c_meaning.specs.Memory.{Spot}
 use Rattle.sparse_marks.specs.Matrices.{Csr}
@@ -44,3 +44,8 @@ cells_of_diagonal lay m w p =
 
 abbrev pub padded_diagonals : (ℕ → ℕ → Spot) → Csr → List Padded
 padded_diagonals lay m = flat_map (λ q. cells_of_diagonal lay m (nth (kept 0 (diagonal_entries m)) q) q) (upto (length (kept 0 (diagonal_entries m))))
+
+-- how many of the cells stand for a row and a column
+abbrev pub how_often : ℕ → ℕ → List Padded → ℕ
+how_often i j [] = 0
+how_often i j (c ∷ cs) = (if nat_eq c.row i && nat_eq c.col j then 1 else 0) + how_often i j cs

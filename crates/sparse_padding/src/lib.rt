@@ -1,7 +1,7 @@
 //! Padded lists of assignments: each function here carries one law as its contract, with worked positions beside it.
 #![tactic(auto)]
 
-ghost use Rattle.std.specs.Prelude.{◌≡◌, [], ◌∷◌, length, Some, slice_get};
+ghost use Rattle.std.specs.Prelude.{◌≡◌, ℕ, [], ◌∷◌, length, Some, slice_get};
 ghost use Rattle.c_tree.specs.declared.statement.How.TheVariants.{Add, Subtract};
 ghost use Rattle.c_meaning.specs.Ground.{effect, perform};
 ghost use Rattle.sparse_marks.specs.Examples.{three_by_four, no_rows, repeated, empty_between};
@@ -10,8 +10,9 @@ ghost use Rattle.sparse_padding.specs.Positions.{by_entry, padded, AreHarmless, 
 ghost use Rattle.sparse_padding.specs.Laws.{RunIsOneAssignment, OneEntryIsOneAssignment, ZeroChangesNothing, PaddedListKeepsEffect};
 ghost use Rattle.sparse_padding.specs.Examples.{a, b, x, y, held, is_matrix, times_x, positions, reading, reading_sum, reading_one, reading_cell};
 ghost use Rattle.sparse_padding.specs.Bodies.{row_positions};
-ghost use Rattle.sparse_padding.specs.PaddedCells.{padded_blocks};
-ghost use Rattle.sparse_padding.specs.BodyLaws.{IsOver, HoldRows, HoldBlocks, HoldDiagonals, PaddedCellsKeepEffect, PaddedBlocksKeepEffect, PaddedDiagonalsKeepEffect, RowsPerformTheEntries, PaddedRowsKeepEffect};
+ghost use Rattle.sparse_padding.specs.PaddedCells.{padded_blocks, padded_diagonals, how_often};
+ghost use Rattle.sparse_padding.specs.CellLaws.{EntriesFallOnBlocksOnce, EntriesFallOnDiagonalsOnce};
+ghost use Rattle.sparse_padding.specs.BodyLaws.{IsOver, IsUnread, HoldRows, HoldBlocks, HoldDiagonals, PaddedCellsKeepEffect, PaddedBlocksKeepEffect, PaddedDiagonalsKeepEffect, RowsPerformTheEntries, PaddedRowsKeepEffect};
 ghost use Rattle.sparse_padding.specs.Spmv.{spmv, lay_cell, lay_row, x_cells, y_cells, with_rows, with_blocks, with_diagonals, by_rows, by_blocks, by_diagonals, left_in, last_of_blocks, two_entries, padded_zero};
 ghost use Rattle.sparse_padding.specs.Spmv.{is_matrix as is_of_matrix};
 
@@ -61,6 +62,7 @@ pub fn padded_blocks_keep_effect()
     ensures law { PaddedBlocksKeepEffect }
     ensures numbers { AreNumbers (with_blocks three_by_four x_cells y_cells) }
     ensures over { IsOver is_of_matrix spmv three_by_four (with_blocks three_by_four x_cells y_cells) }
+    ensures unread { (i j : ℕ) → IsUnread spmv three_by_four i j }
     ensures held { HoldBlocks is_of_matrix 2 2 lay_cell three_by_four (with_blocks three_by_four x_cells y_cells) }
     ensures count { length (by_blocks three_by_four) ≡ 12 }
     ensures last { slice_get (padded_blocks 2 2 lay_cell three_by_four) 11 ≡ Some last_of_blocks }
@@ -72,11 +74,26 @@ pub fn padded_blocks_keep_effect()
 pub fn padded_diagonals_keep_effect()
     ensures law { PaddedDiagonalsKeepEffect }
     ensures numbers { AreNumbers (with_diagonals three_by_four x_cells y_cells) }
+    ensures over { IsOver is_of_matrix spmv three_by_four (with_diagonals three_by_four x_cells y_cells) }
     ensures held { HoldDiagonals is_of_matrix lay_row three_by_four (with_diagonals three_by_four x_cells y_cells) }
     ensures count { length (by_diagonals three_by_four) ≡ 9 }
     ensures case { left_in three_by_four (by_diagonals three_by_four) (with_diagonals three_by_four x_cells y_cells) ≡ 23 ∷ 14 ∷ 44 ∷ [] }
     ensures repeated_count { length (by_diagonals repeated) ≡ 2 }
     ensures repeated { left_in repeated (by_diagonals repeated) (with_diagonals repeated (10 ∷ 20 ∷ []) (0 ∷ [])) ≡ 140 ∷ [] }
+{}
+
+/// Each entry falls on exactly one padded cell of blocks.
+pub fn entries_fall_on_blocks_once()
+    ensures law { EntriesFallOnBlocksOnce }
+    ensures case { how_often 2 3 (padded_blocks 2 2 lay_cell three_by_four) ≡ 1 }
+    ensures other { how_often 2 2 (padded_blocks 1 1 lay_cell three_by_four) ≡ 0 }
+{}
+
+/// And on exactly one of diagonals.
+pub fn entries_fall_on_diagonals_once()
+    ensures law { EntriesFallOnDiagonalsOnce }
+    ensures case { how_often 2 3 (padded_diagonals lay_row three_by_four) ≡ 1 }
+    ensures other { how_often 2 1 (padded_diagonals lay_row repeated) ≡ 0 }
 {}
 
 /// The entries that fall on padded rows are the entries in order.
