@@ -61,7 +61,7 @@ pub entry_kept : (f : Form) (rest : Entry → List ℤ) (m : Csr) (i j : ℕ) �
     → is_among (value_at f i (m.col (m.first i + j))) (kept (group_by f.rows i) (map (placed f rest) (entries m))) ≡ true
 entry_kept f rest m i j h l =
     let a : has (group_by f.rows i) (value_at f i (m.col (m.first i + j))) (map (placed f rest) (entries m)) ≡ true =
-        subst (λ es. has (group_by f.rows i) (value_at f i (m.col (m.first i + j))) es ≡ true) (met_is f rest m m.rows) (has_met (walk f rest m) i j m.rows h l) in
+    subst (λ es. has (group_by f.rows i) (value_at f i (m.col (m.first i + j))) es ≡ true) (met_is f rest m m.rows) (has_met (walk f rest m) i j m.rows h l) in
     (keeps_each (group_by f.rows i) (map (placed f rest) (entries m))).complete (value_at f i (m.col (m.first i + j))) ∙ a
 
 stored_in : (f : Form) (rest : Entry → List ℤ) (m : Csr) (i j : ℕ) → i < m.rows → j < count m i

@@ -178,7 +178,7 @@ module _ (rows cols : ℕ) (lay : ℕ → ℕ → ℕ → Spot) (m : Csr) (h : 0
   group_once : how_often i j (blocks_of_group rows cols lay m (i / rows)) ≡ 1
   group_once =
       one_of_all i j (λ q. cells_of_block rows cols lay m (i / rows) (nth (kept (i / rows) (block_entries rows cols m)) q) (start (i / rows) (block_entries rows cols m) + q)) (length (kept (i / rows) (block_entries rows cols m)))
-        (standing (pos (j / cols)) (kept (i / rows) (block_entries rows cols m))) (standing_inside _ _ k)
+        (standing (pos (j / cols)) (kept (i / rows) (block_entries rows cols m))) (standing_inside (pos (j / cols)) (kept (i / rows) (block_entries rows cols m)) k)
         (λ q u e. other_block (i / rows) (start (i / rows) (block_entries rows cols m) + q) (nth (kept (i / rows) (block_entries rows cols m)) q) (stands_once (i / rows) q (pos (j / cols)) (block_entries rows cols m) u e))
       ∙ this_block (start (i / rows) (block_entries rows cols m) + standing (pos (j / cols)) (kept (i / rows) (block_entries rows cols m)))
         (nth (kept (i / rows) (block_entries rows cols m)) (standing (pos (j / cols)) (kept (i / rows) (block_entries rows cols m))))

@@ -4,14 +4,14 @@ use Rattle.c_tree.specs.declared.statement.How.TheVariants.{Add}
 use Rattle.c_meaning.specs.Names.{same_name}
 use Rattle.c_meaning.specs.Memory.{Spot, Cells}
 use Rattle.c_meaning.specs.Ground.{Step, load, effect}
-use Rattle.sparse_marks.specs.Matrices.{Csr}
+use Rattle.sparse_marks.specs.Matrices.{Csr, entries}
 use Rattle.sparse_marks.specs.Walks.{walk}
-use Rattle.sparse_marks.specs.Examples.{numbers}
+use Rattle.sparse_marks.specs.Examples.{numbers, matrix}
 use Rattle.sparse_layouts.specs.Layouts.{layout, blocks, in_block, diagonals, in_diagonal}
 use Rattle.sparse_layouts.specs.Padded.{row_value, upto}
 use Rattle.sparse_padding.specs.Products.{hole, left, with_factor}
 use Rattle.sparse_padding.specs.Positions.{Position, padded}
-use Rattle.sparse_padding.specs.Bodies.{Body, Padded, position_of, row_positions}
+use Rattle.sparse_padding.specs.Bodies.{Body, Padded, entry_step, position_of, row_positions}
 use Rattle.sparse_padding.specs.PaddedCells.{padded_blocks, padded_diagonals}
 use Rattle.sparse_padding.specs.Examples.{cell_of}
 
@@ -61,12 +61,19 @@ with_blocks m x y = memory m (λ p u v. layout (walk (blocks 2 2) (in_block 2 2)
 abbrev pub with_diagonals : Csr → List ℕ → List ℕ → Cells
 with_diagonals m x y = memory m (λ p i k. layout (walk diagonals in_diagonal m) m.rows p (pos i ∷ [])) x y
 
+-- the assignments of all entries in order, and of all padded cells of blocks
+abbrev pub of_entries : Body → Csr → List Step
+of_entries b m = map (entry_step b) (entries m)
+
+abbrev pub of_blocks : Body → Csr → List Step
+of_blocks b m = padded (map (position_of b m) (padded_blocks 2 2 lay_cell m))
+
 -- the padded assignments
 abbrev pub by_rows : Csr → List Step
 by_rows m = padded (row_positions spmv lay_row m)
 
 abbrev pub by_blocks : Csr → List Step
-by_blocks m = padded (map (position_of spmv m) (padded_blocks 2 2 lay_cell m))
+by_blocks m = of_blocks spmv m
 
 abbrev pub by_diagonals : Csr → List Step
 by_diagonals m = padded (map (position_of spmv m) (padded_diagonals lay_row m))
@@ -75,7 +82,17 @@ by_diagonals m = padded (map (position_of spmv m) (padded_diagonals lay_row m))
 abbrev pub left_in : Csr → List Step → Cells → List ℕ
 left_in m ts s = map (λ i. effect ts s (cell_of 121 i)) (upto m.rows)
 
--- the last padded cell of the blocks of three_by_four, the entries' assignments of empty_between, and its second padded one
+-- x[col[k]] += a[k] * x[col[k]], and a row with two entries of 1 in its one column
+abbrev pub reading_body : Body
+reading_body = record { target = λ i j. cell_of 120 j; how = Add; product = λ i j. left hole (load (cell_of 120 j)); value = λ k. cell_of 97 k }
+
+abbrev pub twice_one : Csr
+twice_one = matrix 1 1 (0 ∷ 2 ∷ []) (0 ∷ 0 ∷ []) (1 ∷ 1 ∷ [])
+
+-- the first padded assignment and the last padded cell of the blocks of three_by_four, the entries' assignments of empty_between, and its second padded one
+abbrev pub first_of_blocks : Step
+first_of_blocks = with_factor (cell_of 121 0) Add (left hole (load (cell_of 120 0))) (lay_cell 0 0 0)
+
 abbrev pub last_of_blocks : Padded
 last_of_blocks = record { row = 2; col = 3; cell = lay_cell 3 0 1 }
 

@@ -8,12 +8,12 @@ ghost use Rattle.sparse_marks.specs.Examples.{three_by_four, no_rows, repeated, 
 ghost use Rattle.sparse_padding.specs.Products.{with_factor, with_each};
 ghost use Rattle.sparse_padding.specs.Positions.{by_entry, padded, AreHarmless, HoldSums, AreNumbers};
 ghost use Rattle.sparse_padding.specs.Laws.{RunIsOneAssignment, OneEntryIsOneAssignment, ZeroChangesNothing, PaddedListKeepsEffect};
-ghost use Rattle.sparse_padding.specs.Examples.{a, b, x, y, held, is_matrix, times_x, positions, reading, reading_sum, reading_one, reading_cell};
+ghost use Rattle.sparse_padding.specs.Examples.{cell_of, a, b, x, y, held, is_matrix, times_x, positions, reading, reading_sum, reading_one, reading_cell};
 ghost use Rattle.sparse_padding.specs.Bodies.{row_positions};
 ghost use Rattle.sparse_padding.specs.PaddedCells.{padded_blocks, padded_diagonals, how_often};
 ghost use Rattle.sparse_padding.specs.CellLaws.{EntriesFallOnBlocksOnce, EntriesFallOnDiagonalsOnce};
 ghost use Rattle.sparse_padding.specs.BodyLaws.{IsOver, IsUnread, HoldRows, HoldBlocks, HoldDiagonals, PaddedCellsKeepEffect, PaddedBlocksKeepEffect, PaddedDiagonalsKeepEffect, RowsPerformTheEntries, PaddedRowsKeepEffect};
-ghost use Rattle.sparse_padding.specs.Spmv.{spmv, lay_cell, lay_row, x_cells, y_cells, with_rows, with_blocks, with_diagonals, by_rows, by_blocks, by_diagonals, left_in, last_of_blocks, two_entries, padded_zero};
+ghost use Rattle.sparse_padding.specs.Spmv.{spmv, lay_cell, lay_row, x_cells, y_cells, with_rows, with_blocks, with_diagonals, by_rows, by_blocks, by_diagonals, left_in, of_entries, of_blocks, reading_body, twice_one, first_of_blocks, last_of_blocks, two_entries, padded_zero};
 ghost use Rattle.sparse_padding.specs.Spmv.{is_matrix as is_of_matrix};
 
 /// A run of assignments to one cell, which none of them reads, has the effect of one assignment whose factor is the sum.
@@ -50,11 +50,14 @@ pub fn padded_list_keeps_effect()
 {}
 
 /// Over a matrix, one assignment for each padded cell that holds the matrix has the effect of one for each entry that falls on
-/// them. In a row with a column that stands twice, both entries fall on one cell.
+/// them. In a row with a column that stands twice, both entries fall on one cell; where their products read their target, the
+/// sum isn't the same.
 pub fn padded_cells_keep_effect()
     ensures law { PaddedCellsKeepEffect }
     ensures count { length (by_blocks repeated) ≡ 2 }
     ensures case { left_in repeated (by_blocks repeated) (with_blocks repeated (10 ∷ 20 ∷ []) (0 ∷ [])) ≡ 140 ∷ [] }
+    ensures reading { effect (of_entries reading_body twice_one) (with_blocks twice_one (1 ∷ []) []) (cell_of 120 0) ≡ 4 }
+    ensures their_sum { effect (of_blocks reading_body twice_one) (with_blocks twice_one (1 ∷ []) []) (cell_of 120 0) ≡ 3 }
 {}
 
 /// The cells of blocks do.
@@ -65,6 +68,7 @@ pub fn padded_blocks_keep_effect()
     ensures unread { (i j : ℕ) → IsUnread spmv three_by_four i j }
     ensures held { HoldBlocks is_of_matrix 2 2 lay_cell three_by_four (with_blocks three_by_four x_cells y_cells) }
     ensures count { length (by_blocks three_by_four) ≡ 12 }
+    ensures first { slice_get (by_blocks three_by_four) 0 ≡ Some first_of_blocks }
     ensures last { slice_get (padded_blocks 2 2 lay_cell three_by_four) 11 ≡ Some last_of_blocks }
     ensures case { left_in three_by_four (by_blocks three_by_four) (with_blocks three_by_four x_cells y_cells) ≡ 23 ∷ 14 ∷ 44 ∷ [] }
     ensures empty { by_blocks no_rows ≡ [] }
@@ -100,6 +104,8 @@ pub fn entries_fall_on_diagonals_once()
 pub fn rows_perform_the_entries()
     ensures law { RowsPerformTheEntries }
     ensures case { by_entry (row_positions spmv lay_row empty_between) ≡ two_entries }
+    ensures product { left_in three_by_four (of_entries spmv three_by_four) (with_rows three_by_four x_cells y_cells) ≡ 23 ∷ 14 ∷ 44 ∷ [] }
+    ensures repeated { left_in repeated (of_entries spmv repeated) (with_rows repeated (10 ∷ 20 ∷ []) (0 ∷ [])) ≡ 140 ∷ [] }
 {}
 
 /// One assignment for each cell of padded rows has the effect of one for each entry, in order.
