@@ -1,5 +1,5 @@
 -- A worked matrix is one.
-use Rattle.std.proofs.Common.{◌≡◌, refl, ℕ, zero, suc, ◌≤◌, ◌<◌, arith}
+use Rattle.std.proofs.Common.{refl, ℕ, zero, suc, ◌≤◌, ◌<◌, arith}
 use Rattle.sparse_marks.specs.Matrices.{IsCsr}
 use Rattle.sparse_marks.specs.Examples.{empty_between}
 

@@ -3,7 +3,7 @@ use Rattle.std.proofs.Common.{◌≡◌, ◌⊎◌, inl, inr, refl, sym, ap, ◌
 use Rattle.std.proofs.lemmas.Nat.{div-add-mod', div-mul-add}
 use Rattle.std.proofs.Math.Nat.{mod-lt}
 use Rattle.sparse_marks.specs.Matrices.{Csr, Entry, count, entries, wrapped}
-use Rattle.sparse_marks.specs.Kept.{same, is_among, Placed, kept, start, position}
+use Rattle.sparse_marks.specs.Kept.{same, is_among, Placed, kept, position}
 use Rattle.sparse_marks.specs.Forms.{Form, group_by, groups, placed, value_at}
 use Rattle.sparse_marks.specs.Walks.{Walk, met, row_met, met_before, walk, marks_in}
 use Rattle.sparse_marks.specs.Laws.{has}
@@ -14,7 +14,7 @@ use Rattle.sparse_marks.proofs.Standing.{stands_at}
 use Rattle.sparse_marks.proofs.Telling.{met_is}
 use Rattle.sparse_marks.proofs.Extents.{fit, extent_is, group_in}
 use Rattle.sparse_layouts.specs.Layouts.{same_list, Cells, laying, layout, blocks, in_block, diagonals, in_diagonal}
-use Rattle.sparse_layouts.specs.Extents.{AreInside, diagonal_extents, diagonal_entries, BlocksFitTheirExtents, DiagonalsFitTheirExtents, RowsFitTheirExtents}
+use Rattle.sparse_layouts.specs.Extents.{diagonal_entries, BlocksFitTheirExtents, DiagonalsFitTheirExtents, RowsFitTheirExtents}
 use Rattle.sparse_layouts.proofs.Falling.{same_pos}
 use Rattle.sparse_layouts.proofs.Widths.{covers}
 

@@ -1,9 +1,9 @@
 -- Padded rows hold the entries in order, and zeros.
 use Rattle.std.proofs.Common.{◌≡◌, refl, sym, ap, ◌∙◌, subst, ℕ, zero, suc, ◌+◌, ◌-◌, ◌≤◌, ◌<◌, max, Bool, true, false, ◌&&◌, List, [], ◌∷◌, ◌++◌, map, nat_eq, nat_le, nat_lt, if◌then◌else◌, arith}
 use Rattle.std.proofs.lemmas.List.{map-append}
-use Rattle.sparse_marks.specs.Matrices.{Csr, IsCsr, Entry, entry_at, count, front_of, entries_before, entries, wrapped, total, is_at, cell}
+use Rattle.sparse_marks.specs.Matrices.{Csr, IsCsr, Entry, entry_at, count, front_of, entries_before, wrapped, total, is_at}
 use Rattle.sparse_layouts.specs.Padded.{longest, width, row_value, row_column, upto, in_column, filled}
-use Rattle.sparse_layouts.specs.RowLaws.{HoldsRow, RowsHoldTheMatrix, ColumnsStayInside}
+use Rattle.sparse_layouts.specs.RowLaws.{RowsHoldTheMatrix, ColumnsStayInside}
 use Rattle.sparse_layouts.proofs.Widths.{covers}
 
 -- a cell of an entry, and one behind the last

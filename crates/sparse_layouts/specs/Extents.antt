@@ -1,5 +1,5 @@
 -- The extents of layouts, against what is stored in them and read of them.
-use Rattle.std.specs.Prelude.{◌≡◌, ℕ, ◌+◌, ◌-◌, ◌*◌, ◌/◌, ◌%◌, ◌≤◌, ◌<◌, ◌⊎◌, ℤ, pos, List, [], ◌∷◌, map}
+use Rattle.std.specs.Prelude.{◌≡◌, ℕ, ◌+◌, ◌-◌, ◌*◌, ◌/◌, ◌%◌, ◌≤◌, ◌<◌, ◌⊎◌, pos, List, [], ◌∷◌, map}
 use Rattle.sparse_marks.specs.Matrices.{Csr, count, entries}
 use Rattle.sparse_marks.specs.Kept.{Placed, position}
 use Rattle.sparse_marks.specs.Forms.{groups, group_by, placed, value_at}

@@ -1,11 +1,11 @@
 -- The dense list of a worked row is its list moved.
-use Rattle.std.proofs.Common.{◌≡◌, inl, inr, refl, sym, ap, ◌∙◌, subst, ℕ, ◌≤◌, ◌<◌, ℤ, pos, ◌<ℤ◌, true, List, [], ◌∷◌, arith}
+use Rattle.std.proofs.Common.{◌≡◌, inl, inr, refl, sym, ap, ◌∙◌, subst, ℕ, ℤ, pos, true, List, [], ◌∷◌, arith}
 use Rattle.std.proofs.lemmas.Int.{ints}
 use Rattle.c_meaning.specs.Ground.{Step}
-use Rattle.nest_tree.specs.Lists.{IsIn, IsListOf, IsStrictlySorted}
+use Rattle.nest_tree.specs.Lists.{IsIn, IsStrictlySorted}
 use Rattle.nest_tree.specs.Places.{place, Item, Precedes}
 use Rattle.sparse_marks.specs.Examples.{repeated}
-use Rattle.sparse_lists.specs.Moving.{Goes, IsOf, densified, dense_positions}
+use Rattle.sparse_lists.specs.Moving.{IsOf, densified, dense_positions}
 use Rattle.sparse_lists.specs.Examples.{column_at, positions, entry_item, dense_item, row_list, dense_list, GoesDense, AreOfTheStatement, IsDenseList, IsMovedRow}
 use Rattle.sparse_lists.proofs.Relocating.{place_back, item_is, moved}
 use Rattle.sparse_lists.proofs.Levels.{dense}

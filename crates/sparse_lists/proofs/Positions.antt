@@ -1,12 +1,10 @@
 -- Positions and kept values tell one another.
-use Rattle.std.proofs.Common.{◌≡◌, refl, sym, ap, ◌∙◌, subst, ℕ, zero, suc, ◌+◌, ◌-◌, ◌≤◌, ◌<◌, ℤ, pos, Bool, true, false, ◌||◌, List, [], ◌∷◌, ◌++◌, length, if◌then◌else◌, nat_lt, arith}
-use Rattle.std.proofs.lemmas.Int.{ints}
+use Rattle.std.proofs.Common.{◌≡◌, refl, sym, ap, ◌∙◌, subst, ℕ, suc, ◌+◌, ◌-◌, ◌≤◌, ◌<◌, ℤ, Bool, true, false, ◌||◌, List, [], ◌∷◌, length, if◌then◌else◌, nat_lt, arith}
 use Rattle.sparse_marks.specs.Kept.{same, is_among, Placed, kept, kept_before, start, standing, position, nth}
-use Rattle.sparse_marks.specs.Laws.{AreDistinct, KeepsEach}
-use Rattle.sparse_marks.proofs.Values.{same_is, same_self}
+use Rattle.sparse_marks.proofs.Values.{same_is}
 use Rattle.sparse_marks.proofs.Keeping.{keeps_each, standing_inside}
 use Rattle.sparse_marks.proofs.Standing.{start_next, start_rises, stands_at, nth_among, standing_nth}
-use Rattle.sparse_lists.specs.Laws.{PositionsAreOneToOne, PositionsTellKeptValues, IsPositionOf}
+use Rattle.sparse_lists.specs.Laws.{PositionsAreOneToOne, PositionsTellKeptValues}
 
 standing_one : (v w : ℤ) (ks : List ℤ) → is_among v ks ≡ true → is_among w ks ≡ true → standing v ks ≡ standing w ks → v ≡ w
 standing_one v w [] h k e = cc

@@ -1,5 +1,5 @@
 -- The list of new places is the old list moved.
-use Rattle.std.proofs.Common.{◌≡◌, refl, sym, ap, ◌∙◌, subst, ℕ, zero, suc, ◌≤◌, ◌<◌, ℤ, pos, Bool, true, List, [], ◌∷◌}
+use Rattle.std.proofs.Common.{◌≡◌, refl, sym, ap, ◌∙◌, subst, ℕ, ℤ, pos, Bool, true, List, [], ◌∷◌}
 use Rattle.nest_tree.specs.Lists.{IsIn, IsListOf}
 use Rattle.nest_tree.specs.Places.{place, IsInstance, Item, Precedes}
 use Rattle.nest_tree.specs.Effects.{IsMoved}

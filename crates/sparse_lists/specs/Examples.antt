@@ -1,5 +1,5 @@
 -- A worked row: its entries, with the columns 1, 1 and 0, and its dense list.
-use Rattle.std.specs.Prelude.{ℕ, List, [], ◌∷◌, ℤ, pos, Bool, true}
+use Rattle.std.specs.Prelude.{ℕ, List, [], ◌∷◌, ℤ, pos, true}
 use Rattle.c_tree.specs.declared.statement.How.TheVariants.{Add}
 use Rattle.c_meaning.specs.Names.{line}
 use Rattle.c_meaning.specs.Ground.{Step, load}

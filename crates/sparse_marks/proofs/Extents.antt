@@ -1,11 +1,11 @@
 -- What is read of begins and values is what they have.
-use Rattle.std.proofs.Common.{◌≡◌, refl, sym, ap, subst, ℕ, zero, suc, ◌+◌, ◌*◌, ◌/◌, ◌≤◌, ◌<◌, ℤ, Bool, true, false, List, map, length, nat_lt, arith, mul_comm}
+use Rattle.std.proofs.Common.{◌≡◌, refl, ap, subst, ℕ, zero, suc, ◌+◌, ◌*◌, ◌/◌, ◌≤◌, ◌<◌, ℤ, Bool, true, false, List, map, length, nat_lt, arith, mul_comm}
 use Rattle.std.proofs.lemmas.Nat.{le-div}
 use Rattle.std.proofs.Math.Nat.{mul-div-le, mul-le-mul_left}
 use Rattle.sparse_marks.specs.Matrices.{Csr, Entry, entries}
 use Rattle.sparse_marks.specs.Kept.{Placed, start}
 use Rattle.sparse_marks.specs.Forms.{Form, group_by, groups_by, groups, placed}
-use Rattle.sparse_marks.specs.Extents.{values_extent, IsBegin, IsBetween, FitsReads, ExtentsFitReads}
+use Rattle.sparse_marks.specs.Extents.{values_extent, IsBegin, IsBetween, ExtentsFitReads}
 use Rattle.sparse_marks.proofs.Ranges.{div_rises}
 use Rattle.sparse_marks.proofs.Standing.{start_rises}
 use Rattle.sparse_marks.proofs.Telling.{groups_above, finds}

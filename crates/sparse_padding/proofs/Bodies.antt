@@ -1,15 +1,15 @@
 -- Positions of a matrix meet the conditions of the law of padding.
-use Rattle.std.proofs.Common.{◌≡◌, ◌⊎◌, inl, inr, refl, sym, ap, ◌∙◌, subst, ℕ, zero, suc, ◌+◌, ◌^◌, ◌<◌, ◌≤◌, Bool, true, false, List, [], ◌∷◌, ◌++◌, map, length, nat_lt, nat_le, if◌then◌else◌, arith, append_assoc}
+use Rattle.std.proofs.Common.{◌≡◌, ◌⊎◌, inl, inr, refl, sym, ap, ◌∙◌, subst, ℕ, zero, suc, ◌+◌, ◌<◌, ◌≤◌, Bool, true, false, List, [], ◌∷◌, ◌++◌, map, length, nat_lt, nat_le, if◌then◌else◌, arith, append_assoc}
 use Rattle.std.proofs.lemmas.List.{append-nil, map-append}
 use Rattle.std.proofs.Math.Nat.{mod-eq_of_lt}
 use Rattle.std.specs.List.{list_all}
 use Rattle.c_meaning.specs.Memory.{Spot, Cells}
-use Rattle.c_meaning.specs.Ground.{wrapped, Step, effect}
+use Rattle.c_meaning.specs.Ground.{wrapped, effect}
 use Rattle.sparse_marks.specs.Matrices.{Csr, Entry, entry_at, count, front_of, entries_before, entries, is_at, total}
-use Rattle.sparse_layouts.specs.Padded.{width, row_value, row_column, upto}
+use Rattle.sparse_layouts.specs.Padded.{width, row_column, upto}
 use Rattle.sparse_layouts.proofs.Widths.{covers}
-use Rattle.sparse_padding.specs.Products.{with_factor, with_each, sum_of}
-use Rattle.sparse_padding.specs.Positions.{Position, by_entry, padded, IsHarmless, AreHarmless, HoldSums, AreNumbers}
+use Rattle.sparse_padding.specs.Products.{with_each, sum_of}
+use Rattle.sparse_padding.specs.Positions.{Position, by_entry, IsHarmless, AreHarmless, HoldSums, AreNumbers}
 use Rattle.sparse_padding.specs.Bodies.{Body, Padded, entry_step, places_at, position_of, row_position, rows_before, row_positions}
 use Rattle.sparse_padding.specs.BodyLaws.{IsOver, HoldsCell, HoldCells, HoldRows, PaddedCellsKeepEffect, RowsPerformTheEntries, PaddedRowsKeepEffect}
 use Rattle.sparse_padding.proofs.Sums.{keeps_effect}
@@ -33,9 +33,6 @@ total_append p [] ys = grind arith
 total_append p (e ∷ xs) ys = grind (arith, total_append p xs ys)
 
 -- the values at the places are the entries'
-sums_of : Body → Cells → ℕ → ℕ → List Entry → ℕ
-sums_of b s i j es = sum_of s (map b.value (places_at i j es))
-
 sums_append : (b : Body) (s : Cells) (i j : ℕ) (es fs : List Entry) → sum_of s (map b.value (places_at i j (es ++ fs))) ≡ sum_of s (map b.value (places_at i j es)) + sum_of s (map b.value (places_at i j fs))
 sums_append b s i j es fs =
     ap (λ l. sum_of s (map b.value l)) (places_append i j es fs)

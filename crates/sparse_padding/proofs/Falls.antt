@@ -1,11 +1,11 @@
 -- Each entry falls on exactly one padded cell.
-use Rattle.std.proofs.Common.{◌≡◌, refl, sym, ap, ◌∙◌, subst, ℕ, zero, suc, ◌+◌, ◌-◌, ◌*◌, ◌/◌, ◌<◌, ◌≤◌, ℤ, pos, negsuc, ◌+ℤ◌, ◌-ℤ◌, Bool, true, false, ◌&&◌, List, [], ◌∷◌, ◌++◌, map, length, nat_eq, nat_lt, cond, if◌then◌else◌, arith}
+use Rattle.std.proofs.Common.{◌≡◌, refl, sym, ap, ◌∙◌, subst, ℕ, zero, suc, ◌+◌, ◌/◌, ◌<◌, ℤ, pos, negsuc, ◌+ℤ◌, ◌-ℤ◌, Bool, true, false, ◌&&◌, List, [], ◌∷◌, ◌++◌, map, length, nat_eq, nat_lt, cond, if◌then◌else◌, arith}
 use Rattle.std.proofs.lemmas.Int.{ints}
 use Rattle.std.specs.List.{filter, flat_map}
 use Rattle.c_meaning.specs.Memory.{Spot}
-use Rattle.sparse_marks.specs.Matrices.{Csr, IsCsr, count}
+use Rattle.sparse_marks.specs.Matrices.{Csr}
 use Rattle.sparse_marks.specs.Kept.{same, is_among, kept, start, standing, nth}
-use Rattle.sparse_marks.specs.Forms.{group_by, groups_by, groups, value_at}
+use Rattle.sparse_marks.specs.Forms.{group_by, groups}
 use Rattle.sparse_marks.proofs.Values.{same_is, same_self}
 use Rattle.sparse_marks.proofs.Keeping.{keeps_each, standing_inside}
 use Rattle.sparse_marks.proofs.Standing.{nth_standing, standing_nth}

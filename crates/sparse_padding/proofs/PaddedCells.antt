@@ -1,11 +1,11 @@
 -- The padded cells of blocks and diagonals hold the matrix.
-use Rattle.std.proofs.Common.{◌≡◌, refl, sym, ap, ◌∙◌, subst, ℕ, zero, suc, ◌+◌, ◌-◌, ◌*◌, ◌/◌, ◌%◌, ◌<◌, ◌≤◌, ℤ, pos, negsuc, ◌+ℤ◌, Bool, true, false, List, [], ◌∷◌, ◌++◌, map, length, nat_eq, nat_lt, cond, arith}
+use Rattle.std.proofs.Common.{◌≡◌, refl, sym, ap, ◌∙◌, subst, ℕ, zero, suc, ◌+◌, ◌-◌, ◌*◌, ◌/◌, ◌%◌, ◌<◌, ◌≤◌, ℤ, pos, negsuc, ◌+ℤ◌, Bool, true, false, List, [], ◌∷◌, ◌++◌, map, length, nat_eq, cond, arith}
 use Rattle.std.proofs.lemmas.Nat.{div-add-mod'}
 use Rattle.std.proofs.Math.Nat.{mod-lt}
 use Rattle.std.specs.List.{filter, flat_map}
 use Rattle.c_meaning.specs.Memory.{Spot, Cells}
 use Rattle.sparse_marks.specs.Matrices.{Csr, cell}
-use Rattle.sparse_marks.specs.Kept.{same, is_among, kept, start, standing, position, nth}
+use Rattle.sparse_marks.specs.Kept.{same, is_among, kept, start, position, nth}
 use Rattle.sparse_marks.specs.Forms.{groups}
 use Rattle.sparse_marks.specs.Walks.{walk}
 use Rattle.sparse_marks.proofs.Values.{same_is}
@@ -16,10 +16,9 @@ use Rattle.sparse_layouts.specs.Laws.{cell_at}
 use Rattle.sparse_layouts.specs.Extents.{block_entries, diagonal_entries}
 use Rattle.sparse_layouts.specs.Padded.{upto}
 use Rattle.sparse_layouts.proofs.Falling.{of_blocks, of_diagonals}
-use Rattle.sparse_padding.specs.Positions.{AreNumbers}
 use Rattle.sparse_padding.specs.Bodies.{Body, Padded}
 use Rattle.sparse_padding.specs.PaddedCells.{block_cell, cells_of_block, blocks_of_group, padded_blocks, is_column, column_of, cells_of_diagonal, padded_diagonals}
-use Rattle.sparse_padding.specs.BodyLaws.{IsOver, IsUnread, HoldsCell, HoldCells, HoldBlocks, HoldDiagonals, PaddedBlocksKeepEffect, PaddedDiagonalsKeepEffect}
+use Rattle.sparse_padding.specs.BodyLaws.{IsUnread, HoldsCell, HoldCells, HoldBlocks, HoldDiagonals, PaddedBlocksKeepEffect, PaddedDiagonalsKeepEffect}
 use Rattle.sparse_padding.proofs.Bodies.{cells_keep}
 
 -- each number from 0 to below n

@@ -1,9 +1,7 @@
 -- The memories of y[i] += a[k] * x[col[k]] meet the conditions.
-use Rattle.std.proofs.Common.{◌≡◌, inl, refl, ℕ, zero, suc, ◌+◌, ◌^◌, ◌<◌, ℤ, pos, Bool, true, false, List, [], ◌∷◌, if◌then◌else◌, nat_lt, arith}
+use Rattle.std.proofs.Common.{inl, refl, ℕ, zero, suc, ◌+◌, ◌^◌, ◌<◌, ℤ, pos, Bool, true, false, List, [], ◌∷◌, if◌then◌else◌, arith}
 use Rattle.std.proofs.Math.Nat.{mod-lt}
 use Rattle.c_meaning.specs.Names.{same_name}
-use Rattle.c_meaning.specs.Memory.{Spot, Cells}
-use Rattle.c_meaning.specs.Ground.{wrapped}
 use Rattle.sparse_marks.specs.Matrices.{Csr}
 use Rattle.sparse_marks.specs.Walks.{Walk, walk}
 use Rattle.sparse_marks.specs.Examples.{numbers, three_by_four}

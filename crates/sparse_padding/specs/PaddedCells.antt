@@ -1,11 +1,11 @@
 -- The padded cells of blocks and diagonals, in the order in which they are gone over.
-use Rattle.std.specs.Prelude.{ℕ, ◌+◌, ◌-◌, ◌*◌, ◌/◌, ℤ, pos, negsuc, ◌+ℤ◌, Bool, true, false, ◌&&◌, List, [], ◌∷◌, map, length, if◌then◌else◌, nat_eq, nat_lt}
+use Rattle.std.specs.Prelude.{ℕ, ◌+◌, ◌-◌, ◌*◌, ◌/◌, ℤ, pos, negsuc, ◌+ℤ◌, Bool, false, ◌&&◌, List, [], ◌∷◌, map, length, if◌then◌else◌, nat_eq, nat_lt}
 use Rattle.std.specs.List.{filter, flat_map}
 use Rattle.c_meaning.specs.Memory.{Spot}
 use Rattle.sparse_marks.specs.Matrices.{Csr}
 use Rattle.sparse_marks.specs.Kept.{same, kept, start, nth}
 use Rattle.sparse_marks.specs.Forms.{groups}
-use Rattle.sparse_layouts.specs.Layouts.{blocks, diagonals}
+use Rattle.sparse_layouts.specs.Layouts.{blocks}
 use Rattle.sparse_layouts.specs.Extents.{block_entries, diagonal_entries}
 use Rattle.sparse_layouts.specs.Padded.{upto}
 use Rattle.sparse_padding.specs.Bodies.{Padded}

@@ -1,5 +1,5 @@
 -- y[i] += a[k] * x[col[k]] on worked matrices: the memory with a layout, and what is left in y.
-use Rattle.std.specs.Prelude.{ℕ, zero, suc, ℤ, pos, negsuc, Bool, ◌||◌, List, [], ◌∷◌, map, length, if◌then◌else◌}
+use Rattle.std.specs.Prelude.{ℕ, zero, suc, ℤ, pos, negsuc, Bool, ◌||◌, List, [], ◌∷◌, map, if◌then◌else◌}
 use Rattle.c_tree.specs.declared.statement.How.TheVariants.{Add}
 use Rattle.c_meaning.specs.Names.{same_name}
 use Rattle.c_meaning.specs.Memory.{Spot, Cells}
@@ -10,7 +10,7 @@ use Rattle.sparse_marks.specs.Examples.{numbers, matrix}
 use Rattle.sparse_layouts.specs.Layouts.{layout, blocks, in_block, diagonals, in_diagonal}
 use Rattle.sparse_layouts.specs.Padded.{row_value, upto}
 use Rattle.sparse_padding.specs.Products.{hole, left, with_factor}
-use Rattle.sparse_padding.specs.Positions.{Position, padded}
+use Rattle.sparse_padding.specs.Positions.{padded}
 use Rattle.sparse_padding.specs.Bodies.{Body, Padded, entry_step, position_of, row_positions}
 use Rattle.sparse_padding.specs.PaddedCells.{padded_blocks, padded_diagonals}
 use Rattle.sparse_padding.specs.Examples.{cell_of}
