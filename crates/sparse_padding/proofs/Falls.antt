@@ -135,7 +135,7 @@ module _ (rows cols : ℕ) (lay : ℕ → ℕ → ℕ → Spot) (m : Csr) (h : 0
   other_value w p r e =
       ap (how_often i j) (map_flat i j (block_cell rows cols lay p r) (filter (λ j. same (pos (j / cols)) w) (upto m.cols)))
       ∙ none_of i j (λ x. block_cell rows cols lay p r x ∷ []) (λ j. same (pos (j / cols)) w) m.cols
-        (λ x u t. one_cell i j (block_cell rows cols lay p r x) _ false refl (differs x t) ∙ both_false (nat_eq r i))
+      (λ x u t. one_cell i j (block_cell rows cols lay p r x) _ false refl (differs x t) ∙ both_false (nat_eq r i))
     where
       differs : (x : ℕ) → same (pos (x / cols)) w ≡ true → nat_eq x j ≡ false
       differs x t = by _ refl
@@ -148,7 +148,7 @@ module _ (rows cols : ℕ) (lay : ℕ → ℕ → ℕ → Spot) (m : Csr) (h : 0
   this_row w p e =
       ap (how_often i j) (map_flat i j (block_cell rows cols lay p i) (filter (λ j. same (pos (j / cols)) w) (upto m.cols)))
       ∙ one_of i j (λ x. block_cell rows cols lay p i x ∷ []) (λ j. same (pos (j / cols)) w) m.cols j c e
-        (λ x u n t. one_cell i j (block_cell rows cols lay p i x) _ false refl n ∙ both_false (nat_eq i i))
+      (λ x u n t. one_cell i j (block_cell rows cols lay p i x) _ false refl n ∙ both_false (nat_eq i i))
       ∙ one_cell i j (block_cell rows cols lay p i j) true true (self i) (self j)
 
   other_block : (g p : ℕ) (w : ℤ) → same (pos (j / cols)) w ≡ false → how_often i j (cells_of_block rows cols lay m g w p) ≡ 0
@@ -173,21 +173,21 @@ module _ (rows cols : ℕ) (lay : ℕ → ℕ → ℕ → Spot) (m : Csr) (h : 0
   group_empty g e =
       ap (λ ks. how_often i j (flat_map (λ q. cells_of_block rows cols lay m g (nth (kept g (block_entries rows cols m)) q) (start g (block_entries rows cols m) + q)) ks)) (sym (filter_all i j (upto (length (kept g (block_entries rows cols m))))))
       ∙ none_of i j (λ q. cells_of_block rows cols lay m g (nth (kept g (block_entries rows cols m)) q) (start g (block_entries rows cols m) + q)) (λ q. true) (length (kept g (block_entries rows cols m)))
-        (λ q u t. other_group g (start g (block_entries rows cols m) + q) (nth (kept g (block_entries rows cols m)) q) e)
+      (λ q u t. other_group g (start g (block_entries rows cols m) + q) (nth (kept g (block_entries rows cols m)) q) e)
 
   group_once : how_often i j (blocks_of_group rows cols lay m (i / rows)) ≡ 1
   group_once =
       one_of_all i j (λ q. cells_of_block rows cols lay m (i / rows) (nth (kept (i / rows) (block_entries rows cols m)) q) (start (i / rows) (block_entries rows cols m) + q)) (length (kept (i / rows) (block_entries rows cols m)))
-        (standing (pos (j / cols)) (kept (i / rows) (block_entries rows cols m))) (standing_inside (pos (j / cols)) (kept (i / rows) (block_entries rows cols m)) k)
-        (λ q u e. other_block (i / rows) (start (i / rows) (block_entries rows cols m) + q) (nth (kept (i / rows) (block_entries rows cols m)) q) (stands_once (i / rows) q (pos (j / cols)) (block_entries rows cols m) u e))
+      (standing (pos (j / cols)) (kept (i / rows) (block_entries rows cols m))) (standing_inside (pos (j / cols)) (kept (i / rows) (block_entries rows cols m)) k)
+      (λ q u e. other_block (i / rows) (start (i / rows) (block_entries rows cols m) + q) (nth (kept (i / rows) (block_entries rows cols m)) q) (stands_once (i / rows) q (pos (j / cols)) (block_entries rows cols m) u e))
       ∙ this_block (start (i / rows) (block_entries rows cols m) + standing (pos (j / cols)) (kept (i / rows) (block_entries rows cols m)))
-        (nth (kept (i / rows) (block_entries rows cols m)) (standing (pos (j / cols)) (kept (i / rows) (block_entries rows cols m))))
-        (ap (same (pos (j / cols))) (nth_standing (pos (j / cols)) (kept (i / rows) (block_entries rows cols m)) k) ∙ same_self (pos (j / cols)))
+      (nth (kept (i / rows) (block_entries rows cols m)) (standing (pos (j / cols)) (kept (i / rows) (block_entries rows cols m))))
+      (ap (same (pos (j / cols))) (nth_standing (pos (j / cols)) (kept (i / rows) (block_entries rows cols m)) k) ∙ same_self (pos (j / cols)))
 
   blocks_once : how_often i j (padded_blocks rows cols lay m) ≡ 1
   blocks_once =
       one_of_all i j (blocks_of_group rows cols lay m) (groups (blocks rows cols) m) (i / rows)
-        (subst (λ g. g < groups (blocks rows cols) m) (group_is rows i h) (group_in rows i m.rows a)) (λ g u e. group_empty g e)
+      (subst (λ g. g < groups (blocks rows cols) m) (group_is rows i h) (group_in rows i m.rows a)) (λ g u e. group_empty g e)
       ∙ group_once
 
 pub fall_on_blocks : EntriesFallOnBlocksOnce
@@ -238,7 +238,7 @@ module _ (lay : ℕ → ℕ → Spot) (m : Csr) (i j : ℕ) (a : i < m.rows) (c 
   this_diagonal w p e =
       ap (how_often i j) (map_flat i j (λ r. let c : Padded = record { row = r; col = column_of (pos r +ℤ w); cell = lay p r } in c) (filter (λ r. is_column m.cols (pos r +ℤ w)) (upto m.rows)))
       ∙ one_of i j (λ r. (let c : Padded = record { row = r; col = column_of (pos r +ℤ w); cell = lay p r } in c) ∷ []) (λ r. is_column m.cols (pos r +ℤ w)) m.rows i a
-        (ap (is_column m.cols) x ∙ (let z : nat_lt j m.cols ≡ true = grind (arith, c) in z)) (λ r u n t. of_row w p r n)
+      (ap (is_column m.cols) x ∙ (let z : nat_lt j m.cols ≡ true = grind (arith, c) in z)) (λ r u n t. of_row w p r n)
       ∙ one_cell i j (record { row = i; col = column_of (pos i +ℤ w); cell = lay p i }) true true (self i) (ap (λ x. nat_eq (column_of x) j) x ∙ self j)
     where
       x : (pos i +ℤ w) ≡ pos j
@@ -247,7 +247,7 @@ module _ (lay : ℕ → ℕ → Spot) (m : Csr) (i j : ℕ) (a : i < m.rows) (c 
   diagonals_once : how_often i j (padded_diagonals lay m) ≡ 1
   diagonals_once =
       one_of_all i j (λ q. cells_of_diagonal lay m (nth (kept 0 (diagonal_entries m)) q) q) (length (kept 0 (diagonal_entries m))) (standing (pos j -ℤ pos i) (kept 0 (diagonal_entries m))) (standing_inside _ _ k)
-        (λ q u e. other_diagonal (nth (kept 0 (diagonal_entries m)) q) q (stands_once 0 q (pos j -ℤ pos i) (diagonal_entries m) u e))
+      (λ q u e. other_diagonal (nth (kept 0 (diagonal_entries m)) q) q (stands_once 0 q (pos j -ℤ pos i) (diagonal_entries m) u e))
       ∙ this_diagonal (nth (kept 0 (diagonal_entries m)) (standing (pos j -ℤ pos i) (kept 0 (diagonal_entries m)))) _ (nth_standing (pos j -ℤ pos i) (kept 0 (diagonal_entries m)) k)
 
 pub fall_on_diagonals : EntriesFallOnDiagonalsOnce

@@ -73,10 +73,10 @@ module _ (matrix : Spot → Bool) (b : Body) (rows cols : ℕ) (lay : ℕ → �
       let u1 : r / rows * rows + (r - r / rows * rows) ≡ r = u.1 in
       let v1 : j / cols * cols + (j - j / cols * cols) ≡ j = v.1 in
       let kept_here : is_among (pos (j / cols)) (kept g (block_entries rows cols m)) ≡ true =
-          subst (λ w. is_among w (kept g (block_entries rows cols m)) ≡ true) (sym f) (nth_among (kept g (block_entries rows cols m)) q k) in
+      subst (λ w. is_among w (kept g (block_entries rows cols m)) ≡ true) (sym f) (nth_among (kept g (block_entries rows cols m)) q k) in
       d.held (start g (block_entries rows cols m) + q) (r - r / rows * rows) (j - j / cols * cols)
       ∙ ap (λ p. layout (walk (blocks rows cols) (in_block rows cols) m) m.rows p (pos (r - r / rows * rows) ∷ pos (j - j / cols * cols) ∷ []))
-        (kept_place g q (block_entries rows cols m) k ∙ ap (λ w. position g w (block_entries rows cols m)) (sym f))
+      (kept_place g q (block_entries rows cols m) k ∙ ap (λ w. position g w (block_entries rows cols m)) (sym f))
       ∙ of_blocks rows cols m g (j / cols) (r - r / rows * rows) (j - j / cols * cols) u.0 v.0 kept_here
       ∙ ap (λ i. cell m i (j / cols * cols + (j - j / cols * cols))) (ap (λ g. g * rows + (r - r / rows * rows)) (sym e) ∙ u1)
       ∙ ap (cell m r) v1
