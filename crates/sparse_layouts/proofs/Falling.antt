@@ -35,7 +35,7 @@ digits r R g u h = by _ refl
         no true false x y = refl
         no false d x y = refl
 
-same_pos : (m n : ℕ) → same (pos m) (pos n) ≡ nat_eq m n
+pub same_pos : (m n : ℕ) → same (pos m) (pos n) ≡ nat_eq m n
 same_pos m n = grind (arith, ints)
 
 -- sums over entries, and over what a form makes of them
@@ -48,11 +48,11 @@ same_total q p f (e ∷ es) h k =
     ∙ ap (λ n. if p e then e.worth + n else n) i
 
 -- blocks
-group_is : (R r : ℕ) → 0 < R → group_by R r ≡ r / R
+pub group_is : (R r : ℕ) → 0 < R → group_by R r ≡ r / R
 group_is zero r h = absurd (omega (arith, h))
 group_is (suc k) r h = refl
 
-plain_value : (C r c : ℕ) → 0 < C → int_div_euclid ((pos c +ℤ (pos 0 *ℤ pos r)) +ℤ pos 0) (pos C) ≡ pos (c / C)
+pub plain_value : (C r c : ℕ) → 0 < C → int_div_euclid ((pos c +ℤ (pos 0 *ℤ pos r)) +ℤ pos 0) (pos C) ≡ pos (c / C)
 plain_value C r c h =
     ap (λ x. int_div_euclid ((pos c +ℤ x) +ℤ pos 0) (pos C)) (ap pos (zero-mul r))
     ∙ ap (λ x. int_div_euclid x (pos C)) (let e : (pos c +ℤ pos 0) +ℤ pos 0 ≡ pos c = grind (arith, ints) in e)
@@ -74,7 +74,7 @@ of_blocks R C m g w u v h k i =
     ∙ ap wrapped (same_total (falls g (pos w) (pos u ∷ pos v ∷ [])) (is_at (g * R + u) (w * C + v)) (placed (blocks R C) (in_block R C)) (entries m) (falls_block R C g w u v h k) (λ x. refl))
 
 -- diagonals
-diagonal_value : (r c : ℕ) → int_div_euclid ((pos c +ℤ (negsuc 0 *ℤ pos r)) +ℤ pos 0) (pos 1) ≡ pos c -ℤ pos r
+pub diagonal_value : (r c : ℕ) → int_div_euclid ((pos c +ℤ (negsuc 0 *ℤ pos r)) +ℤ pos 0) (pos 1) ≡ pos c -ℤ pos r
 diagonal_value r c =
     ap (λ x. int_div_euclid x (pos 1)) (let e : (pos c +ℤ (negsuc 0 *ℤ pos r)) +ℤ pos 0 ≡ pos c -ℤ pos r = grind (arith, ints) in e) ∙ by_one (pos c -ℤ pos r)
   where

@@ -1,16 +1,11 @@
 -- Layouts of worked matrices, as lists of cells.
-use Rattle.std.specs.Prelude.{ℕ, zero, suc, pos, List, [], ◌∷◌, ◌++◌, map}
+use Rattle.std.specs.Prelude.{ℕ, pos, List, [], ◌∷◌, ◌++◌, map}
 use Rattle.sparse_marks.specs.Matrices.{Csr, entries}
 use Rattle.sparse_marks.specs.Forms.{groups, placed}
 use Rattle.sparse_marks.specs.Kept.{start}
 use Rattle.sparse_marks.specs.Walks.{walk}
 use Rattle.sparse_layouts.specs.Layouts.{layout, blocks, in_block, diagonals, in_diagonal}
-use Rattle.sparse_layouts.specs.Padded.{width, row_value, row_column}
-
--- the numbers from 0 to below n
-abbrev pub upto : ℕ → List ℕ
-upto zero = []
-upto (suc n) = upto n ++ n ∷ []
+use Rattle.sparse_layouts.specs.Padded.{width, row_value, row_column, upto}
 
 abbrev pub joined : List (List ℕ) → List ℕ
 joined [] = []

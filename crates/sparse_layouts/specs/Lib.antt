@@ -1,4 +1,6 @@
 pub mod Layouts
 pub mod Padded
 pub mod Laws
+pub mod RowLaws
+pub mod Extents
 pub mod Examples

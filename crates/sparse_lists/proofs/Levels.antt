@@ -1,9 +1,9 @@
 -- Dense and compacted level values go one to one.
-use Rattle.std.proofs.Common.{◌≡◌, refl, sym, ap, ◌∙◌, subst, ℕ, zero, suc, ◌≤◌, ◌<◌, ℤ, pos, negsuc, true, List, [], ◌∷◌, length, arith}
+use Rattle.std.proofs.Common.{◌≡◌, refl, sym, ap, ◌∙◌, ℕ, zero, suc, ◌≤◌, ◌<◌, ℤ, pos, negsuc, true, List, [], ◌∷◌, length, arith}
 use Rattle.nest_tree.specs.Places.{IsInstance}
 use Rattle.nest_tree.specs.Levels.{inserted, without}
-use Rattle.sparse_marks.specs.Kept.{is_among, Placed, kept, position}
-use Rattle.sparse_lists.specs.Moving.{IsOneToOne, densified, dense_positions, first_compacted, in_group, second_compacted, first_is_kept, is_kept_in, second_is_kept}
+use Rattle.sparse_marks.specs.Kept.{Placed, position}
+use Rattle.sparse_lists.specs.Moving.{first_compacted, in_group, second_compacted, first_is_kept, is_kept_in, second_is_kept}
 use Rattle.sparse_lists.specs.Laws.{DenseLevelsAreOneToOne, CompactedLevelsAreOneToOne}
 use Rattle.sparse_lists.proofs.Positions.{one_to_one}
 

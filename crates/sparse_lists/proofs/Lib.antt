@@ -1,3 +1,4 @@
 pub mod Positions
 pub mod Relocating
 pub mod Levels
+pub mod Examples

@@ -1,12 +1,10 @@
 -- Positions and kept values tell one another.
-use Rattle.std.proofs.Common.{◌≡◌, refl, sym, ap, ◌∙◌, subst, ℕ, zero, suc, ◌+◌, ◌-◌, ◌≤◌, ◌<◌, ℤ, pos, Bool, true, false, ◌||◌, List, [], ◌∷◌, ◌++◌, length, if◌then◌else◌, nat_lt, arith}
-use Rattle.std.proofs.lemmas.Int.{ints}
+use Rattle.std.proofs.Common.{◌≡◌, refl, sym, ap, ◌∙◌, subst, ℕ, suc, ◌+◌, ◌-◌, ◌≤◌, ◌<◌, ℤ, Bool, true, false, ◌||◌, List, [], ◌∷◌, length, if◌then◌else◌, nat_lt, arith}
 use Rattle.sparse_marks.specs.Kept.{same, is_among, Placed, kept, kept_before, start, standing, position, nth}
-use Rattle.sparse_marks.specs.Laws.{AreDistinct, KeepsEach}
-use Rattle.sparse_marks.proofs.Values.{same_is, same_self}
+use Rattle.sparse_marks.proofs.Values.{same_is}
 use Rattle.sparse_marks.proofs.Keeping.{keeps_each, standing_inside}
-use Rattle.sparse_marks.proofs.Standing.{start_next, start_rises, stands_at}
-use Rattle.sparse_lists.specs.Laws.{PositionsAreOneToOne, PositionsTellKeptValues, IsPositionOf}
+use Rattle.sparse_marks.proofs.Standing.{start_next, start_rises, stands_at, nth_among, standing_nth}
+use Rattle.sparse_lists.specs.Laws.{PositionsAreOneToOne, PositionsTellKeptValues}
 
 standing_one : (v w : ℤ) (ks : List ℤ) → is_among v ks ≡ true → is_among w ks ≡ true → standing v ks ≡ standing w ks → v ≡ w
 standing_one v w [] h k e = cc
@@ -37,25 +35,6 @@ one_to_one es h g v w i j e = by _ _ refl refl
     by true c p q = absurd (let u : position h v es < position g w es = earlier es h g v w i (grind (arith, p)) in omega (arith, u, e))
     by false true p q = absurd (let u : position g w es < position h v es = earlier es g h w v j (grind (arith, q)) in omega (arith, u, e))
     by false false p q = let k : h ≡ g = grind (arith, p, q) in (k, in_one h k i e)
-
--- the value at a place of a list without repetition stands there
-nth_among : (ks : List ℤ) (q : ℕ) → q < length ks → is_among (nth ks q) ks ≡ true
-nth_among [] q h = absurd (omega (arith, h))
-nth_among (k ∷ ks) zero h = let e : same k k ≡ true = same_self k in grind (arith, e)
-nth_among (k ∷ ks) (suc q) h = let e : is_among (nth ks q) ks ≡ true = nth_among ks q (omega (arith, h)) in or_true (same (nth ks q) k) _ e
-  where
-    or_true : (b c : Bool) → c ≡ true → (b || c) ≡ true
-    or_true true c h = refl
-    or_true false c h = h
-
-standing_nth : (ks : List ℤ) (q : ℕ) → AreDistinct ks → q < length ks → standing (nth ks q) ks ≡ q
-standing_nth [] q d h = absurd (omega (arith, h))
-standing_nth (k ∷ ks) zero d h = ap (λ b. if b then 0 else suc (standing k ks)) (same_self k)
-standing_nth (k ∷ ks) (suc q) d h = by _ refl (nth_among ks q (omega (arith, h))) (standing_nth ks q (d.1) (omega (arith, h)))
-  where
-    by : (b : Bool) → same (nth ks q) k ≡ b → is_among (nth ks q) ks ≡ true → standing (nth ks q) ks ≡ q → (if b then 0 else suc (standing (nth ks q) ks)) ≡ suc q
-    by true e i f = absurd (let z : is_among k ks ≡ true = ap (λ u. is_among u ks) (sym (same_is (nth ks q) k e)) ∙ i in let y : is_among k ks ≡ false = d.0 in grind (arith, z, y))
-    by false e i f = ap suc f
 
 pub tell_values : PositionsTellKeptValues
 tell_values es g n p h k l =

@@ -1,5 +1,5 @@
 -- The list of new places is the old list moved.
-use Rattle.std.proofs.Common.{◌≡◌, refl, sym, ap, ◌∙◌, subst, ℕ, zero, suc, ◌≤◌, ◌<◌, ℤ, pos, Bool, true, List, [], ◌∷◌}
+use Rattle.std.proofs.Common.{◌≡◌, refl, sym, ap, ◌∙◌, subst, ℕ, ℤ, pos, Bool, true, List, [], ◌∷◌}
 use Rattle.nest_tree.specs.Lists.{IsIn, IsListOf}
 use Rattle.nest_tree.specs.Places.{place, IsInstance, Item, Precedes}
 use Rattle.nest_tree.specs.Effects.{IsMoved}
@@ -23,7 +23,7 @@ place_back (p ∷ p' ∷ ps) (v ∷ vs) (w ∷ ws) i j e = ap (λ (x : ℤ). x �
     tail_is : (v w : ℤ) (xs ys : List ℤ) → (pos p ∷ v ∷ xs) ≡ (pos p ∷ w ∷ ys) → xs ≡ ys
     tail_is v w xs ys e = cc
 
-item_is : (x y : Item Step) → x.place ≡ y.place → x.step ≡ y.step → x ≡ y
+pub item_is : (x y : Item Step) → x.place ≡ y.place → x.step ≡ y.step → x ≡ y
 item_is x y e f =
     ap (λ (p : List ℤ). let z : Item Step = record { place = p; step = x.step } in z) e ∙ ap (λ (s : Step). let z : Item Step = record { place = y.place; step = s } in z) f
 

@@ -5,4 +5,5 @@ pub mod Ranges
 pub mod Keeping
 pub mod Standing
 pub mod Telling
+pub mod Extents
 pub mod Laws

@@ -5,7 +5,7 @@ use Rattle.std.specs.Int.{int_div_euclid, int_min, int_max}
 use Rattle.std.proofs.lemmas.Nat.{le-div}
 use Rattle.std.proofs.Math.Nat.{div-mul-le_self, mul-le-mul_left, zero-mul}
 
-div_rises : (a b t : ℕ) → 0 < t → a ≤ b → a / t ≤ b / t
+pub div_rises : (a b t : ℕ) → 0 < t → a ≤ b → a / t ≤ b / t
 div_rises a b t p h = le-div (a / t) b t p (let q : a / t * t ≤ a = div-mul-le_self a t in omega (arith, q, h))
 
 pub floor_rises : (x y : ℤ) (t : ℕ) → 0 < t → x ≤ℤ y → int_div_euclid x (pos t) ≤ℤ int_div_euclid y (pos t)

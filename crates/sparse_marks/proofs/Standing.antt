@@ -1,9 +1,9 @@
 -- The kept values of all groups stand one behind the other.
-use Rattle.std.proofs.Common.{◌≡◌, refl, sym, ap, ◌∙◌, subst, ℕ, zero, suc, ◌+◌, ◌≤◌, ◌<◌, ℤ, Bool, true, false, List, [], ◌∷◌, ◌++◌, length, if◌then◌else◌, nat_lt, arith, length-append}
+use Rattle.std.proofs.Common.{◌||◌, ◌≡◌, refl, sym, ap, ◌∙◌, subst, ℕ, zero, suc, ◌+◌, ◌≤◌, ◌<◌, ℤ, Bool, true, false, List, [], ◌∷◌, ◌++◌, length, if◌then◌else◌, nat_lt, arith, length-append}
 use Rattle.sparse_marks.specs.Kept.{same, is_among, Placed, kept, kept_before, start, standing, position, nth}
 use Rattle.sparse_marks.specs.Marks.{found}
-use Rattle.sparse_marks.specs.Laws.{StandsAt}
-use Rattle.sparse_marks.proofs.Values.{same_is}
+use Rattle.sparse_marks.specs.Laws.{AreDistinct, StandsAt}
+use Rattle.sparse_marks.proofs.Values.{same_is, same_self}
 use Rattle.sparse_marks.proofs.Keeping.{standing_inside}
 
 pub start_next : (g : ℕ) (es : List Placed) → start (suc g) es ≡ start g es + length (kept g es)
@@ -31,7 +31,7 @@ nth_back : (ws vs : List ℤ) (p : ℕ) → nth (ws ++ vs) (length ws + p) ≡ n
 nth_back [] vs p = ap (nth vs) (let e : 0 + p ≡ p = omega arith in e)
 nth_back (w ∷ ws) vs p = ap (nth (w ∷ (ws ++ vs))) (let e : suc (length ws) + p ≡ suc (length ws + p) = omega arith in e) ∙ nth_back ws vs p
 
-nth_standing : (w : ℤ) (ks : List ℤ) → is_among w ks ≡ true → nth ks (standing w ks) ≡ w
+pub nth_standing : (w : ℤ) (ks : List ℤ) → is_among w ks ≡ true → nth ks (standing w ks) ≡ w
 nth_standing w [] h = cc
 nth_standing w (k ∷ ks) h = by _ refl (nth_standing w ks)
   where
@@ -59,3 +59,22 @@ value_there es g (suc n) w h k = by _ refl (value_there es g n w)
 
 pub stands_at : (es : List Placed) → StandsAt es
 stands_at es = record { first = refl; next = λ g. start_next g es; inside = inside es; value = value_there es }
+
+-- the value at a place of a list without repetition stands there
+pub nth_among : (ks : List ℤ) (q : ℕ) → q < length ks → is_among (nth ks q) ks ≡ true
+nth_among [] q h = absurd (omega (arith, h))
+nth_among (k ∷ ks) zero h = let e : same k k ≡ true = same_self k in grind (arith, e)
+nth_among (k ∷ ks) (suc q) h = let e : is_among (nth ks q) ks ≡ true = nth_among ks q (omega (arith, h)) in or_true (same (nth ks q) k) _ e
+  where
+    or_true : (b c : Bool) → c ≡ true → (b || c) ≡ true
+    or_true true c h = refl
+    or_true false c h = h
+
+pub standing_nth : (ks : List ℤ) (q : ℕ) → AreDistinct ks → q < length ks → standing (nth ks q) ks ≡ q
+standing_nth [] q d h = absurd (omega (arith, h))
+standing_nth (k ∷ ks) zero d h = ap (λ b. if b then 0 else suc (standing k ks)) (same_self k)
+standing_nth (k ∷ ks) (suc q) d h = by _ refl (nth_among ks q (omega (arith, h))) (standing_nth ks q (d.1) (omega (arith, h)))
+  where
+    by : (b : Bool) → same (nth ks q) k ≡ b → is_among (nth ks q) ks ≡ true → standing (nth ks q) ks ≡ q → (if b then 0 else suc (standing (nth ks q) ks)) ≡ suc q
+    by true e i f = absurd (let z : is_among k ks ≡ true = ap (λ u. is_among u ks) (sym (same_is (nth ks q) k e)) ∙ i in let y : is_among k ks ≡ false = d.0 in grind (arith, z, y))
+    by false e i f = ap suc f

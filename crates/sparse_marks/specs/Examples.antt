@@ -5,6 +5,7 @@ use Rattle.sparse_marks.specs.Kept.{Placed, kept_before, start}
 use Rattle.sparse_marks.specs.Forms.{Form, groups, placed, value_at}
 use Rattle.sparse_marks.specs.Marks.{Marks}
 use Rattle.sparse_marks.specs.Walks.{walk, marks_of, marks_in}
+use Rattle.sparse_marks.specs.Extents.{IsBegin, IsBetween}
 
 -- the number at a place of a list, 0 past the end
 abbrev pub numbers : List ℕ → ℕ → ℕ
@@ -67,3 +68,7 @@ abbrev pub is_new_at_last : Form → Csr → Bool
 is_new_at_last f m =
     let s : Marks = marks_in (walk f (λ e. []) m) 2 1 in
     nat_le (s.mark (value_at f 2 (m.col 4))) (s.ptr 0)
+
+-- the last begin and the last kept value that are read of blocks: the next begin of group 1, and position 3
+abbrev pub IsLastRead : Type 0
+IsLastRead = IsBegin 2 3 2 × IsBetween (placed_entries by_blocks three_by_four) 2 1 3

@@ -2,17 +2,20 @@
 //! a worked matrix.
 #![tactic(auto)]
 
-ghost use Rattle.std.specs.Prelude.{◌≡◌, ◌≤ℤ◌, pos, negsuc, [], ◌∷◌, true};
+ghost use Rattle.std.specs.Prelude.{◌≡◌, ℕ, pos, negsuc, [], ◌∷◌, true};
 ghost use Rattle.sparse_marks.specs.Matrices.{cell};
-ghost use Rattle.sparse_marks.specs.Kept.{distinct};
-ghost use Rattle.sparse_marks.specs.Forms.{least_value, greatest_value};
+ghost use Rattle.sparse_marks.specs.Kept.{distinct, kept};
+ghost use Rattle.sparse_marks.specs.Forms.{least_value, greatest_value, value_at, group_by};
+ghost use Rattle.sparse_marks.specs.Walks.{Rising};
+ghost use Rattle.sparse_marks.specs.Extents.{begins_extent, values_extent, ExtentsFitReads};
 ghost use Rattle.sparse_marks.specs.Laws.{KeptValuesAreOfTheirGroup, KeptValuesStandByGroups, MarksTellNewValues, MarksFindKeptValues, ValuesLieInRange};
-ghost use Rattle.sparse_marks.specs.Examples.{three_by_four, late_block_first, no_rows, repeated, by_blocks, by_columns, by_diagonals, pointers, kept_values, marks_left, is_new_at_last};
+ghost use Rattle.sparse_marks.specs.Examples.{three_by_four, late_block_first, no_rows, repeated, by_blocks, by_columns, by_diagonals, pointers, kept_values, marks_left, is_new_at_last, placed_entries, IsLastRead};
 
 /// The kept values of a group are those of its entries, each once, in order of first appearance.
 pub fn kept_values_are_of_their_group()
     ensures law { KeptValuesAreOfTheirGroup }
     ensures case { distinct (pos 4 ∷ pos 1 ∷ pos 4 ∷ pos 2 ∷ pos 1 ∷ []) ≡ pos 4 ∷ pos 1 ∷ pos 2 ∷ [] }
+    ensures group { kept 1 (placed_entries by_blocks three_by_four) ≡ pos 0 ∷ pos 1 ∷ [] }
 {}
 
 /// The kept values of all groups stand one behind the other, each at its position.
@@ -23,9 +26,10 @@ pub fn kept_values_stand_by_groups()
 {}
 
 /// On a walk over the entries, a mark that isn't above the start of its group tells a value that the group doesn't have yet;
-/// any other mark is one more than the value's position.
+/// any other mark is one more than the value's position. The groups of every form rise.
 pub fn marks_tell_new_values()
     ensures law { MarksTellNewValues }
+    ensures rising { (rows : ℕ) → Rising (group_by rows) }
     ensures case { is_new_at_last by_diagonals three_by_four ≡ true }
 {}
 
@@ -40,6 +44,19 @@ pub fn values_lie_in_range()
     ensures law { ValuesLieInRange }
     ensures least { least_value by_diagonals three_by_four ≡ negsuc 1 }
     ensures greatest { greatest_value by_diagonals three_by_four ≡ pos 3 }
+    ensures between { value_at by_diagonals 2 0 ≡ negsuc 1 }
+{}
+
+/// Begins and kept values are read exactly in their extents: of the begins a cell for each group and the next one of the last,
+/// and each kept value by its group.
+pub fn extents_fit_reads()
+    ensures law { ExtentsFitReads }
+    ensures begins { begins_extent by_blocks three_by_four ≡ 3 }
+    ensures values { values_extent by_blocks (λ e. []) three_by_four ≡ 4 }
+    ensures last { IsLastRead }
+    ensures one_group { begins_extent by_diagonals three_by_four ≡ 2 }
+    ensures no_groups { begins_extent by_blocks no_rows ≡ 1 }
+    ensures no_values { values_extent by_blocks (λ e. []) no_rows ≡ 0 }
 {}
 
 /// Matrices by blocks, by diagonals and by single columns: starts with the total, and kept values.
@@ -49,6 +66,7 @@ pub fn worked_matrices()
     ensures columns { pointers by_columns three_by_four ≡ 0 ∷ 2 ∷ 3 ∷ 5 ∷ [] }
     ensures column_values { kept_values by_columns three_by_four ≡ pos 0 ∷ pos 2 ∷ pos 1 ∷ pos 0 ∷ pos 3 ∷ [] }
     ensures late { kept_values by_blocks late_block_first ≡ pos 1 ∷ pos 0 ∷ [] }
+    ensures late_starts { pointers by_blocks late_block_first ≡ 0 ∷ 2 ∷ [] }
     ensures empty { pointers by_blocks no_rows ≡ 0 ∷ [] }
     ensures one_diagonal_group { pointers by_diagonals no_rows ≡ 0 ∷ 0 ∷ [] }
 {}

@@ -1,4 +1,9 @@
 pub mod Products
 pub mod Positions
 pub mod Laws
+pub mod Bodies
+pub mod BodyLaws
+pub mod PaddedCells
+pub mod CellLaws
 pub mod Examples
+pub mod Spmv

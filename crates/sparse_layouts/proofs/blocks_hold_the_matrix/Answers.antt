@@ -3,4 +3,4 @@ use Rattle.sparse_layouts.proofs.Falling.{of_blocks as law}
 use Rattle.sparse_layouts.proofs.blocks_hold_the_matrix.Goals as goal
 
 pub returns : goal.returns
-returns c = record { law = law; case = refl; empty = refl }
+returns c = record { law = law; case = refl; late = refl; empty = refl }

@@ -1,0 +1,6 @@
+use Rattle.std.proofs.Common.{refl, arith}
+use Rattle.sparse_layouts.proofs.Extents.{blocks_fit as law}
+use Rattle.sparse_layouts.proofs.blocks_fit_their_extents.Goals as goal
+
+pub returns : goal.returns
+returns c = record { law = law; extents = refl; last = refl; inside = (omega arith, (omega arith, (omega arith, tt))); empty = refl }
