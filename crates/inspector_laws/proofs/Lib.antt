@@ -4,3 +4,4 @@ pub mod Numbers
 pub mod Expressions
 pub mod Matrices
 pub mod Compacting
+pub mod Worked

@@ -6,3 +6,4 @@ pub mod Marking
 pub mod Nests
 pub mod Whole
 pub mod Heads
+pub mod Worked
