@@ -4,4 +4,6 @@ pub mod Numbers
 pub mod Expressions
 pub mod Matrices
 pub mod Compacting
+pub mod Filling
+pub mod Padding
 pub mod Worked

@@ -1,3 +1,4 @@
 pub mod Ready
 pub mod Laws
+pub mod Padding
 pub mod Examples

@@ -5,6 +5,7 @@
 ghost use Rattle.std.specs.Prelude.{◌≡◌, pos, negsuc, [], ◌∷◌, None};
 ghost use Rattle.sparse_marks.specs.Examples.{three_by_four, by_blocks, by_columns, by_diagonals};
 ghost use Rattle.inspector_laws.specs.Laws.{CompactLinesLeaveKeptValues};
+ghost use Rattle.inspector_laws.specs.Padding.{RowLinesPadRows};
 ghost use Rattle.inspector_laws.specs.Ready.{Holds, NamesFit, IsSmallForm, arrays_of};
 ghost use Rattle.inspector_laws.specs.Examples.{names, parameters, memory, made, compacting, first_cells};
 
@@ -12,6 +13,12 @@ ghost use Rattle.inspector_laws.specs.Examples.{names, parameters, memory, made,
 /// for each entry, and leave the kept values; all other arrays are as they were.
 pub fn compact_lines_leave_kept_values()
     ensures law { CompactLinesLeaveKeptValues }
+{}
+
+/// The lines that pad rows, run from any memory that holds a valid matrix, have no fault, make a turn twice for each row and once
+/// for each entry, and leave the width, and each row with its values and columns; all other arrays are as they were.
+pub fn row_lines_pad_rows()
+    ensures law { RowLinesPadRows }
 {}
 
 /// A matrix of three rows and five entries, compacted by single columns, by blocks and by diagonals: it meets what the law

@@ -22,16 +22,16 @@ use Rattle.inspector_runs.proofs.Memories.{other_way, apart_from, long_same, lon
 use Rattle.inspector_runs.proofs.Nests.{nest_goes}
 use Rattle.inspector_runs.proofs.Whole.{marking_goes, nest_of, left_by}
 
-new_cell : (a : Name) (es is : List ℤ) (m : Memory) → (declared a es m).index a is ≡ pos 0
+pub new_cell : (a : Name) (es is : List ℤ) (m : Memory) → (declared a es m).index a is ≡ pos 0
 new_cell a es is m = ap (λ b. if b then pos 0 else m.index a is) (name_self a)
 
-other_cell : (a b : Name) (es is : List ℤ) (m : Memory) → same_name a b ≡ false → (declared a es m).index b is ≡ m.index b is
+pub other_cell : (a b : Name) (es is : List ℤ) (m : Memory) → same_name a b ≡ false → (declared a es m).index b is ≡ m.index b is
 other_cell a b es is m h = ap (λ c. if c then pos 0 else m.index b is) h
 
-new_long : (a : Name) (es : List ℤ) (m : Memory) → (declared a es m).extents a ≡ es
+pub new_long : (a : Name) (es : List ℤ) (m : Memory) → (declared a es m).extents a ≡ es
 new_long a es m = ap (λ b. if b then es else m.extents a) (name_self a)
 
-other_long : (a b : Name) (es : List ℤ) (m : Memory) → same_name a b ≡ false → (declared a es m).extents b ≡ m.extents b
+pub other_long : (a b : Name) (es : List ℤ) (m : Memory) → same_name a b ≡ false → (declared a es m).extents b ≡ m.extents b
 other_long a b es m h = ap (λ c. if c then es else m.extents b) h
 
 -- the memories behind the seven lines

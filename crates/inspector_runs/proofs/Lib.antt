@@ -1,7 +1,10 @@
 pub mod Goes
 pub mod Statements
 pub mod Values
+pub mod Targets
 pub mod Memories
+pub mod Spared
+pub mod Walked
 pub mod Marking
 pub mod Nests
 pub mod Whole
