@@ -9,4 +9,5 @@ pub mod Marking
 pub mod Nests
 pub mod Whole
 pub mod Heads
+pub mod Beside
 pub mod Worked

@@ -22,7 +22,7 @@ from_zero : (n : ℕ) → pos 0 ≤ℤ pos n
 from_zero n = grind (arith, ints)
 
 -- the end of a row
-closed : (b : Arrays) (base : Memory) (z : Sizes) (g : ℕ) (s : Marks) (m : Memory) → Apart b → Shows b z base s m
+pub closed : (b : Arrays) (base : Memory) (z : Sizes) (g : ℕ) (s : Marks) (m : Memory) → Apart b → Shows b z base s m
     → Shows b z base (close g s) (put_in b.ptr (line (pos (suc g))) (pos (length s.val)) m)
 closed b base z g s m dn sh = record {
   mark = λ d. in_other b.ptr b.mark at (line d) n m dn.ptr_mark ∙ sh.mark d;
