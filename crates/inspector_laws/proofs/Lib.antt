@@ -6,4 +6,9 @@ pub mod Matrices
 pub mod Compacting
 pub mod Filling
 pub mod Padding
+pub mod Stored
+pub mod Storing
+pub mod Placed
+pub mod Layering
 pub mod Worked
+pub mod WorkedLayouts
