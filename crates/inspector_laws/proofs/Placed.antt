@@ -2,7 +2,7 @@
 use Rattle.std.proofs.Common.{◌≡◌, refl, sym, ap, ◌∙◌, subst, ℕ, zero, suc, ◌+◌, ◌-◌, ◌*◌, ◌/◌, ◌%◌, ◌≤◌, ◌<◌, ◌^◌, ℤ, pos, negsuc, ◌+ℤ◌, ◌-ℤ◌, ◌*ℤ◌, ◌≤ℤ◌, Bool, true, false, cond, List, [], ◌∷◌, ◌++◌, Ok, arith, unsigned_abs}
 use Rattle.std.proofs.lemmas.Int.{ints}
 use Rattle.std.proofs.lemmas.Nat.{div-add-mod'}
-use Rattle.std.proofs.Math.Nat.{mod-one, mod-lt, mul-comm, mul-le-mul, mul-le-mul_right, mul-one, zero-mul}
+use Rattle.std.proofs.Math.Nat.{mod-one, mod-lt, mul_comm, mul-le-mul, mul-le-mul_right, mul-one, zero-mul}
 use Rattle.std.proofs.Math.IntN.{zero-*ℤ}
 use Rattle.std.specs.Int.{int_div_euclid}
 use Rattle.std.specs.Ordering.{int_eq}
@@ -43,7 +43,7 @@ is_one n q = cc
 
 -- what is left of a number by a divisor
 rest_of : (i d : ℕ) → pos i -ℤ (pos d *ℤ pos (i / d)) ≡ pos (i % d)
-rest_of i d = by i (d * (i / d)) (i % d) (let p : i / d * d + i % d ≡ i = div-add-mod' i d in let q : d * (i / d) ≡ i / d * d = mul-comm d (i / d) in omega (arith, p, q))
+rest_of i d = by i (d * (i / d)) (i % d) (let p : i / d * d + i % d ≡ i = div-add-mod' i d in let q : d * (i / d) ≡ i / d * d = mul_comm d (i / d) in omega (arith, p, q))
   where
     by : (i y z : ℕ) → y + z ≡ i → pos i -ℤ pos y ≡ pos z
     by i y z h = grind (arith, ints, h)

@@ -35,12 +35,12 @@ list_is : (o u : List ℤ) → same_list o u ≡ true → o ≡ u
 list_is [] [] h = refl
 list_is [] (j ∷ u) h = cc
 list_is (i ∷ o) [] h = cc
-list_is (i ∷ o) (j ∷ u) h = by _ _ refl refl
+list_is (i ∷ o) (j ∷ u) h = by _ _ refl refl (list_is o u)
   where
-    by : (b c : Bool) → same i j ≡ b → same_list o u ≡ c → i ∷ o ≡ j ∷ u
-    by true true e g = ap (λ k. k ∷ o) (same_is i j e) ∙ ap (λ l. j ∷ l) (list_is o u g)
-    by true false e g = absurd (let q : (same i j && same_list o u) ≡ true = h in grind (arith, q, e, g))
-    by false c e g = absurd (let q : (same i j && same_list o u) ≡ true = h in grind (arith, q, e, g))
+    by : (b c : Bool) → same i j ≡ b → same_list o u ≡ c → (same_list o u ≡ true → o ≡ u) → i ∷ o ≡ j ∷ u
+    by true true e g f = ap (λ k. k ∷ o) (same_is i j e) ∙ ap (λ l. j ∷ l) (f g)
+    by true false e g f = absurd (let q : (same i j && same_list o u) ≡ true = h in grind (arith, q, e, g))
+    by false c e g f = absurd (let q : (same i j && same_list o u) ≡ true = h in grind (arith, q, e, g))
 
 same_place : (p q : ℕ) → int_eq (pos p) (pos q) ≡ nat_eq (suc p) (suc q)
 same_place p q = grind (arith, ints)

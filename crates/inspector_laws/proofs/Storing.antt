@@ -14,7 +14,7 @@ use Rattle.c_tree.specs.declared.statement.How.TheVariants.{Add}
 use Rattle.c_tree.specs.declared.statement.Stmt.{Stmt}
 use Rattle.c_tree.specs.declared.statement.Stmt.TheVariants.{If, Put, Assign, Declare, Grow}
 use Rattle.c_meaning.specs.Names.{Name, Place, same_name, same_numbers, line}
-use Rattle.c_meaning.specs.Ground.{perform}
+use Rattle.c_meaning.specs.Ground.{Step, perform}
 use Rattle.c_meaning.specs.Weighed.{greatest, plain, difference_of}
 use Rattle.c_meaning.specs.Value.{is_inside, measure, value_of, subscripts_of}
 use Rattle.c_meaning.specs.Memory.{Memory, Env, Spot, sight_of}
@@ -86,14 +86,14 @@ pub record Store (x : Matrix) (b : Arrays) (t : Text) (lay : Name) (c : Env) (a 
   pub small : w * (u * 1) ≤ 2 ^ 24
 
 -- The memory shows the marks and the layout. Without what was made and stored it is `under`.
-record State (x : Matrix) (b : Arrays) (lay : Name) (tail : List ℤ) (w u : ℕ) (c : Env) (base : Memory) (a : Csr) (z : Sizes) (s : Marks) (L : Cells) (m : Memory) : Type 0 where
-  under : Memory
-  holds : Holds x c under a
-  values : HoldsValues x under a
-  shows : Shows b z (cleared b under) s m
-  long_now : under.extents lay ≡ pos (length s.val) ∷ pos w ∷ pos u ∷ []
-  cells : (p : ℕ) (o : List ℤ) → under.cells (lay_cell lay tail p o) ≡ L p o
-  others : Spares (λ y. same_name lay y) base under
+pub record State (x : Matrix) (b : Arrays) (lay : Name) (tail : List ℤ) (w u : ℕ) (c : Env) (base : Memory) (a : Csr) (z : Sizes) (s : Marks) (L : Cells) (m : Memory) : Type 0 where
+  pub under : Memory
+  pub holds : Holds x c under a
+  pub values : HoldsValues x under a
+  pub shows : Shows b z (cleared b under) s m
+  pub long_now : under.extents lay ≡ pos (length s.val) ∷ pos w ∷ pos u ∷ []
+  pub cells : (p : ℕ) (o : List ℤ) → under.cells (lay_cell lay tail p o) ≡ L p o
+  pub others : Spares (λ y. same_name lay y) base under
 
 -- the statements of an entry, and of the end of a row
 abbrev pub grown_lines : Arrays → Text → Name → List Stmt
@@ -213,63 +213,63 @@ module _ (x : Matrix) (cols_first : Bool) (f : Form) (b : Arrays) (lay : Name) (
         more vs y = let q : length (vs ++ y ∷ []) ≡ length vs + 1 = length-append vs (y ∷ []) in omega (arith, q)
 
     -- the store of the entry's value
+    abbrev seen : Marks
+    seen = marks_in trip i (suc j)
+
+    abbrev position : ℕ
+    position = (marks_in trip i (suc j)).mark (trip.value i j) - 1
+
+    abbrev in_cell : List ℤ
+    in_cell = rest (entry_at a i (a.first i + j))
+
+    abbrev stored : Step
+    stored = stores b lay x.value d.made d.value_made tail (line (pos (a.first i + j))) position in_cell
+
     store_goes : (L : Cells) (p : Place) (y : ℕ) (m' : Memory) → Now (marks_in trip i (suc j)) (laying trip i L j) m' → Leads (store_line x lay at ∷ []) (env i j) p y m' 0 (Now (marks_in trip i (suc j)) (laying trip i L (suc j)))
     store_goes L p y m' q =
-        goes_assign (record { array = lay; at = at }) Add (of_data.At (cell x.value (Var entry_name))) [] (env i j) p y m' 0 _ (stores b lay x.value d.made d.value_made tail (line (pos (a.first i + j))) position o)
-        (assigned_at (record { array = lay; at = at }) (cell x.value (Var entry_name)) Add (env i j) m' (lay_cell lay tail position o) (value_cell x (a.first i + j)) read target)
+        goes_assign (record { array = lay; at = at }) Add (of_data.At (cell x.value (Var entry_name))) [] (env i j) p y m' 0 _ stored
+        (assigned_at (record { array = lay; at = at }) (cell x.value (Var entry_name)) Add (env i j) m' (lay_cell lay tail position in_cell) (value_cell x (a.first i + j)) read target)
         (goes_end (env i j) p _ _ _ (record {
-          under = do_deed (assign (stores b lay x.value d.made d.value_made tail (line (pos (a.first i + j))) position o)) q.under;
+          under = do_deed (assign stored) q.under;
           holds = record {
             is_csr = (q.holds).is_csr; rows = (q.holds).rows; cols = (q.holds).cols; index = (q.holds).index; col = (q.holds).col; index_long = (q.holds).index_long; col_long = (q.holds).col_long;
             rows_small = (q.holds).rows_small; cols_small = (q.holds).cols_small; entries_small = (q.holds).entries_small;
           };
           values = record {
-            value = λ r g. unread_cell (q.under).cells (lay_cell lay tail position o) (value_cell x r) _ (ap (λ e. e && same_numbers (pos position ∷ (o ++ tail)) (line (pos r))) d.value) ∙ (q.values).value r g;
+            value = λ r g. unread_cell (q.under).cells (lay_cell lay tail position in_cell) (value_cell x r) _ (ap (λ e. e && same_numbers (pos position ∷ (in_cell ++ tail)) (line (pos r))) d.value) ∙ (q.values).value r g;
             value_long = (q.values).value_long;
             numbers = (q.values).numbers;
           };
-          shows = shows_cells b lay d.made (sizes low ns nm) (cleared b q.under) s _ _ m'
-              (ap (perform (stores b lay x.value d.made d.value_made tail (line (pos (a.first i + j))) position o)) ((q.shows).others).cells ∙ cleared_store b lay x.value d.made d.value_made tail (line (pos (a.first i + j))) position o q.under) q.shows;
+          shows = shows_cells b lay d.made (sizes low ns nm) (cleared b q.under) seen _ _ m'
+              (ap (perform stored) ((q.shows).others).cells ∙ cleared_store b lay x.value d.made d.value_made tail (line (pos (a.first i + j))) position in_cell q.under) q.shows;
           long_now = q.long_now;
-          cells = store_adds b lay x.value d.made d.value_made tail (line (pos (a.first i + j))) position o mark (trip.worth i j) (laying trip i L j) q.under mark_is ((q.values).value (a.first i + j) inside) q.cells;
-          others = spares_assign (λ y. same_name lay y) m q.under lay (name_self lay) q.others (stores b lay x.value d.made d.value_made tail (line (pos (a.first i + j))) position o) refl;
+          cells = store_adds b lay x.value d.made d.value_made tail (line (pos (a.first i + j))) position in_cell (seen.mark (trip.value i j)) (trip.worth i j) (laying trip i L j) q.under mark_is ((q.values).value (a.first i + j) inside) q.cells;
+          others = spares_assign (λ y. same_name lay y) m q.under lay (name_self lay) q.others stored refl;
         }))
       where
-        abbrev s : Marks
-        s = marks_in trip i (suc j)
-
-        abbrev mark : ℕ
-        mark = s.mark (trip.value i j)
-
-        abbrev position : ℕ
-        position = s.mark (trip.value i j) - 1
-
-        abbrev o : List ℤ
-        o = rest (entry_at a i (a.first i + j))
-
         inside : a.first i + j < a.first a.rows
         inside = place_in a h.is_csr i j l e
 
-        mark_is : s.mark (trip.value i j) ≡ suc (s.mark (trip.value i j) - 1)
-        mark_is = let g : 0 < s.mark (trip.value i j) = some_mark (trip.group i) (marks_in trip i j) (trip.value i j) in omega (arith, g)
+        mark_is : seen.mark (trip.value i j) ≡ suc position
+        mark_is = let g : 0 < seen.mark (trip.value i j) = some_mark (trip.group i) (marks_in trip i j) (trip.value i j) in omega (arith, g)
 
-        mark_bound : s.mark (trip.value i j) ≤ length s.val
+        mark_bound : seen.mark (trip.value i j) ≤ length seen.val
         mark_bound = (within trip (fit q.under q.holds).rising i (suc j)).bound (trip.value i j)
 
-        in_lay : s.mark (trip.value i j) - 1 < length s.val
-        in_lay = let g : s.mark (trip.value i j) ≤ length s.val = mark_bound in let r : s.mark (trip.value i j) ≡ suc (s.mark (trip.value i j) - 1) = mark_is in omega (arith, g, r)
+        in_lay : position < length seen.val
+        in_lay = let g : seen.mark (trip.value i j) ≤ length seen.val = mark_bound in let r : seen.mark (trip.value i j) ≡ suc position = mark_is in omega (arith, g, r)
 
-        mark_read : measure (At (cell b.mark text.from_low)) (sight_of (env i j) m') ≡ Ok (plain (pos (s.mark (trip.value i j))))
+        mark_read : measure (At (cell b.mark text.from_low)) (sight_of (env i j) m') ≡ Ok (plain (pos (seen.mark (trip.value i j))))
         mark_read =
             let t : Turn b text (env i j) (cleared b q.under) (sizes low ns nm) (trip.value i j) (trip.value i j -ℤ low) (trip.group i) (marks_in trip i j) = turn_at q.under q.holds in
             measure_read b.mark text.from_low (env i j) m' (trip.value i j -ℤ low) _ ((t.gives).from_low m' (q.shows).others) (inside_long _ (trip.value i j -ℤ low) (pos nm) (q.shows).mark_long t.from t.to)
-            ((q.shows).mark (trip.value i j -ℤ low) ∙ ap (λ y. pos (s.mark y)) t.above)
+            ((q.shows).mark (trip.value i j -ℤ low) ∙ ap (λ y. pos (seen.mark y)) t.above)
 
-        place_value : value_of (place_text b text) (sight_of (env i j) m') ≡ Ok (pos (s.mark (trip.value i j) - 1))
+        place_value : value_of (place_text b text) (sight_of (env i j) m') ≡ Ok (pos position)
         place_value =
-            value_by (place_text b text) _ (difference_of (plain (pos (s.mark (trip.value i j)))) (plain (pos 1))) (measure_minus _ (Const (pos 1)) _ _ _ mark_read (measure-Const (pos 1) _))
-            (let g : s.mark (trip.value i j) ≤ length s.val = mark_bound in let r : length s.val ≤ large = kept_bound i (suc j) l e in let y : large + 1 ≤ greatest = omega arith in omega (arith, g, r, y))
-            ∙ ap (λ y. Ok (pos y -ℤ pos 1)) mark_is ∙ ap Ok (one_less (s.mark (trip.value i j) - 1))
+            value_by (place_text b text) _ (difference_of (plain (pos (seen.mark (trip.value i j)))) (plain (pos 1))) (measure_minus _ (Const (pos 1)) _ _ _ mark_read (measure-Const (pos 1) _))
+            (let g : seen.mark (trip.value i j) ≤ length seen.val = mark_bound in let r : length seen.val ≤ large = kept_bound i (suc j) l e in let y : large + 1 ≤ greatest = omega arith in omega (arith, g, r, y))
+            ∙ ap (λ y. Ok (pos y -ℤ pos 1)) mark_is ∙ ap Ok (one_less position)
 
         place_small : a.first i + j ≤ greatest
         place_small = let g = h.entries_small in let r : a.first i + j < a.first a.rows = inside in up (a.first i + j) large greatest (up (a.first i + j) (a.first a.rows) large (omega (arith, r)) g) (omega arith)
@@ -279,11 +279,11 @@ module _ (x : Matrix) (cols_first : Bool) (f : Form) (b : Arrays) (lay : Name) (
             spot_at (cell x.value (Var entry_name)) (env i j) m' (line (pos (a.first i + j))) (subscripts_one (Var entry_name) _ (pos (a.first i + j)) (value_var entry_name _ place_small))
             (inside_long (m'.extents x.value) (pos (a.first i + j)) (pos (a.first a.rows)) (((q.shows).others).extents x.value d.value_made ∙ (q.values).value_long) (from_zero (a.first i + j)) (below (a.first i + j) (a.first a.rows) inside))
 
-        target : spot (record { array = lay; at = at }) (scene_of (env i j) m') ≡ Ok (lay_cell lay tail (s.mark (trip.value i j) - 1) (rest (entry_at a i (a.first i + j))))
+        target : spot (record { array = lay; at = at }) (scene_of (env i j) m') ≡ Ok (lay_cell lay tail position in_cell)
         target =
-            spot_at (record { array = lay; at = at }) (env i j) m' (pos (s.mark (trip.value i j) - 1) ∷ (rest (entry_at a i (a.first i + j)) ++ tail))
-            (st.subscripts i j (s.mark (trip.value i j) - 1) m' l e (sees_all x cols_first f b c q.under a q.holds n k i j l e m' (q.shows).others) place_value)
-            (inside_extents _ (pos (length s.val) ∷ pos w ∷ pos u ∷ []) (m'.extents lay) (((q.shows).others).extents lay d.made ∙ q.long_now) (st.inside i j (s.mark (trip.value i j) - 1) (length s.val) l e in_lay))
+            spot_at (record { array = lay; at = at }) (env i j) m' (pos position ∷ (in_cell ++ tail))
+            (st.subscripts i j position m' l e (sees_all x cols_first f b c q.under a q.holds n k i j l e m' (q.shows).others) place_value)
+            (inside_extents (pos position ∷ (in_cell ++ tail)) (pos (length seen.val) ∷ pos w ∷ pos u ∷ []) (m'.extents lay) (((q.shows).others).extents lay d.made ∙ q.long_now) (st.inside i j position (length seen.val) l e in_lay))
 
     turn_goes : (L : Cells) (p : Place) (m' : Memory) → Now (marks_in trip i j) (laying trip i L j) m' → Leads (entry_lines x b text lay at) (env i j) p 0 m' 0 (Now (marks_in trip i (suc j)) (laying trip i L (suc j)))
     turn_goes L p m' q =
