@@ -1,13 +1,13 @@
 -- An array beside the made ones: steps on both may change places, and what the made arrays show stays.
-use Rattle.std.proofs.Common.{◌≡◌, refl, sym, ap, ◌∙◌, subst, ℕ, suc, ◌+◌, ℤ, pos, ◌+ℤ◌, Bool, true, false, ◌||◌, List, [], ◌∷◌, arith, if◌then◌else◌}
+use Rattle.std.proofs.Common.{◌≡◌, refl, sym, ap, ◌∙◌, ℕ, ℤ, pos, Bool, true, false, List, arith, if◌then◌else◌}
 use Rattle.c_meaning.specs.Names.{Name, same_name}
-use Rattle.c_meaning.specs.Memory.{Memory, Spot, Cells}
+use Rattle.c_meaning.specs.Memory.{Memory, Cells}
 use Rattle.c_meaning.specs.Run.{with_extents, declared, grown}
-use Rattle.c_meaning.proofs.Spots.{pointwise_equal, name_is, name_self}
+use Rattle.c_meaning.proofs.Spots.{pointwise_equal, name_is}
 use Rattle.sparse_marks.specs.Marks.{Marks}
 use Rattle.inspector_runs.specs.Texts.{Arrays}
-use Rattle.inspector_runs.specs.Shown.{long, is_made, Agrees, Sizes, Shows, cleared}
-use Rattle.inspector_runs.proofs.Memories.{other_way, apart_from, long_same, long_other, made_ptr, made_val, made_num, made_mark}
+use Rattle.inspector_runs.specs.Shown.{long, is_made, Sizes, Shows}
+use Rattle.inspector_runs.proofs.Memories.{other_way, apart_from, long_other, made_ptr, made_val, made_num, made_mark}
 use Rattle.inspector_runs.proofs.Marking.{grown_val}
 use Rattle.inspector_runs.proofs.Heads.{empty, made_arrays}
 

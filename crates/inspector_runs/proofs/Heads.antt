@@ -1,22 +1,21 @@
 -- Declarations and growths, run.
-use Rattle.std.proofs.Common.{◌≡◌, refl, sym, ap, ◌∙◌, subst, ℕ, zero, suc, ◌+◌, ◌≤◌, ℤ, pos, ◌+ℤ◌, Bool, true, false, ◌||◌, List, [], ◌∷◌, ◌++◌, Ok, arith, if◌then◌else◌}
+use Rattle.std.proofs.Common.{◌≡◌, refl, ap, ◌∙◌, ℕ, ◌+◌, ◌≤◌, ℤ, pos, ◌+ℤ◌, Bool, true, false, ◌||◌, List, [], ◌∷◌, arith, if◌then◌else◌}
 use Rattle.std.proofs.lemmas.Int.{ints}
 use Rattle.c_tree.specs.declared.index.Index.{Index}
 use Rattle.c_tree.specs.declared.index.Index.TheVariants.{Const}
 use Rattle.c_tree.specs.declared.program.Kind.TheVariants.{Position}
 use Rattle.c_tree.specs.declared.statement.Stmt.{Stmt}
 use Rattle.c_tree.specs.declared.statement.Stmt.TheVariants.{Declare, Grow}
-use Rattle.c_meaning.specs.Names.{Name, Place, same_name, line}
+use Rattle.c_meaning.specs.Names.{Name, same_name, line}
 use Rattle.c_meaning.specs.Weighed.{greatest}
-use Rattle.c_meaning.specs.Memory.{Memory, Env, Spot, Cells}
+use Rattle.c_meaning.specs.Memory.{Memory, Env}
 use Rattle.c_meaning.specs.Run.{declare, grow, grown, declared, with_extents}
 use Rattle.c_meaning.proofs.Spots.{pointwise_equal, name_self}
-use Rattle.sparse_marks.specs.Marks.{unmarked, Follows}
-use Rattle.sparse_marks.specs.Walks.{Walk, sum_below, met_before}
+use Rattle.sparse_marks.specs.Marks.{unmarked}
 use Rattle.sparse_marks.proofs.Marking.{none_yet}
 use Rattle.inspector_runs.specs.Rules.{Leads}
-use Rattle.inspector_runs.specs.Texts.{Arrays, Text, Loops, head_lines, marking_lines, kept_lines}
-use Rattle.inspector_runs.specs.Shown.{long, is_made, Agrees, Apart, Sizes, Shows, Left, Fits, cleared, SizesFit}
+use Rattle.inspector_runs.specs.Texts.{Arrays, Text, Loops, marking_lines, kept_lines}
+use Rattle.inspector_runs.specs.Shown.{long, is_made, Agrees, Apart, Shows, cleared, SizesFit}
 use Rattle.inspector_runs.specs.Laws.{sizes, LinesLeaveKeptValues, LinesOfNoRows}
 use Rattle.inspector_runs.proofs.Values.{value_const, grow_value}
 use Rattle.inspector_runs.proofs.Statements.{goes_declare, goes_grow, weaker}

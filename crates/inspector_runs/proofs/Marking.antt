@@ -1,23 +1,23 @@
 -- The lines of one entry, run.
-use Rattle.std.proofs.Common.{◌≡◌, refl, sym, ap, ◌∙◌, subst, ℕ, zero, suc, ◌+◌, ◌≤◌, ◌<◌, ◌^◌, ℤ, pos, ◌+ℤ◌, ◌-ℤ◌, ◌≤ℤ◌, ◌<ℤ◌, Bool, true, false, List, [], ◌∷◌, ◌++◌, length, map, Ok, arith, nat_le, nat_eq, if◌then◌else◌, length-append, unsigned_abs, int_le}
+use Rattle.std.proofs.Common.{◌≡◌, refl, sym, ap, ◌∙◌, subst, ℕ, suc, ◌+◌, ◌≤◌, ℤ, pos, ◌+ℤ◌, ◌≤ℤ◌, ◌<ℤ◌, Bool, true, false, List, [], ◌∷◌, ◌++◌, length, Ok, arith, nat_le, nat_eq, if◌then◌else◌, length-append, int_le}
 use Rattle.std.proofs.lemmas.Int.{ints}
-use Rattle.c_tree.specs.declared.index.Index.TheVariants.{Const, Var, At, Plus}
+use Rattle.c_tree.specs.declared.index.Index.TheVariants.{Const, At, Plus}
 use Rattle.c_tree.specs.declared.statement.Stmt.{Stmt}
 use Rattle.c_tree.specs.declared.statement.Stmt.TheVariants.{Put}
 use Rattle.c_meaning.specs.Names.{Name, Place, same_name, line}
 use Rattle.c_meaning.specs.Weighed.{greatest, plain}
-use Rattle.c_meaning.specs.Value.{Answer, ◌>>=◌, measure, value_of, holds, all_hold}
+use Rattle.c_meaning.specs.Value.{Answer, ◌>>=◌, measure, value_of, all_hold}
 use Rattle.c_meaning.specs.Memory.{Memory, Env, sight_of}
-use Rattle.c_meaning.specs.Run.{put_in, with_extents, grown, put, grow, do_deed, grow_step}
+use Rattle.c_meaning.specs.Run.{put_in, with_extents, grown, put, grow, grow_step}
 use Rattle.c_meaning.proofs.Equations.{measure-Const}
-use Rattle.sparse_marks.specs.Kept.{same, nth}
+use Rattle.sparse_marks.specs.Kept.{same}
 use Rattle.sparse_marks.specs.Marks.{Marks, marked, see}
 use Rattle.inspector_runs.specs.Rules.{Leads}
 use Rattle.inspector_runs.specs.Texts.{Arrays, Text, cell, count, new_value, new_test, entry_lines}
-use Rattle.inspector_runs.specs.Shown.{long, is_made, Agrees, Apart, Sizes, Shows, Gives}
+use Rattle.inspector_runs.specs.Shown.{long, Agrees, Apart, Sizes, Shows, Gives}
 use Rattle.inspector_runs.proofs.Values.{inside_long, value_by, measure_read, value_read, value_const, value_plus, put_line, grow_value}
 use Rattle.inspector_runs.proofs.Statements.{goes_end, goes_put, goes_grow, goes_if}
-use Rattle.inspector_runs.proofs.Memories.{other_way, in_same, in_line, in_other, long_same, long_other, agrees_put, agrees_long, made_ptr, made_val, made_num, made_mark, nth-snoc, same_place, same_value}
+use Rattle.inspector_runs.proofs.Memories.{other_way, in_same, in_line, in_other, long_same, long_other, agrees_put, agrees_long, made_val, made_num, made_mark, nth-snoc, same_place, same_value}
 
 -- what is known in the turn of an entry with value w, at d above the lowest value, in group g
 pub record Turn (b : Arrays) (x : Text) (c : Env) (base : Memory) (z : Sizes) (w d : ℤ) (g : ℕ) (s : Marks) : Type 0 where

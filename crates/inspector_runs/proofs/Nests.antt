@@ -1,22 +1,22 @@
 -- The loops over the rows and over the entries of a row, run.
-use Rattle.std.proofs.Common.{◌≡◌, refl, sym, ap, ◌∙◌, subst, ℕ, zero, suc, ◌+◌, ◌≤◌, ◌<◌, ℤ, pos, ◌+ℤ◌, ◌-ℤ◌, ◌≤ℤ◌, ◌<ℤ◌, Bool, true, false, List, [], ◌∷◌, ◌++◌, length, map, Ok, arith, nat_le, nat_eq, if◌then◌else◌}
+use Rattle.std.proofs.Common.{◌≡◌, refl, ap, ◌∙◌, ℕ, suc, ◌+◌, ◌≤◌, ◌<◌, ℤ, pos, ◌+ℤ◌, ◌-ℤ◌, ◌≤ℤ◌, ◌<ℤ◌, Bool, true, false, List, [], ◌∷◌, length, Ok, arith, nat_eq, if◌then◌else◌}
 use Rattle.std.proofs.lemmas.Int.{ints}
 use Rattle.c_tree.specs.declared.index.Index.TheVariants.{Const, Var, At, Plus}
 use Rattle.c_tree.specs.declared.statement.Stmt.TheVariants.{Put}
-use Rattle.c_meaning.specs.Names.{Name, Place, child, line}
+use Rattle.c_meaning.specs.Names.{Place, line}
 use Rattle.c_meaning.specs.Weighed.{greatest, plain}
 use Rattle.c_meaning.specs.Value.{value_of}
-use Rattle.c_meaning.specs.Memory.{Memory, Env, sight_of, bound}
+use Rattle.c_meaning.specs.Memory.{Memory, Env, sight_of}
 use Rattle.c_meaning.specs.Run.{put_in, put}
-use Rattle.sparse_marks.specs.Marks.{Marks, unmarked, pointed, see, close}
+use Rattle.sparse_marks.specs.Marks.{Marks, unmarked, close}
 use Rattle.sparse_marks.specs.Walks.{seeing, rows_seen, sum_below}
 use Rattle.inspector_runs.specs.Rules.{Leads}
-use Rattle.inspector_runs.specs.Texts.{Arrays, Text, Loops, cell, count, entry_lines, row_lines, marking_lines}
-use Rattle.inspector_runs.specs.Shown.{long, Agrees, Apart, Sizes, Shows, row_env, turn_env}
-use Rattle.inspector_runs.proofs.Values.{inside_long, value_by, value_const, put_line}
+use Rattle.inspector_runs.specs.Texts.{Arrays, Text, Loops, cell, count, entry_lines, marking_lines}
+use Rattle.inspector_runs.specs.Shown.{Agrees, Apart, Sizes, Shows, row_env, turn_env}
+use Rattle.inspector_runs.proofs.Values.{inside_long, value_by, put_line}
 use Rattle.inspector_runs.proofs.Walked.{Turns, rows_go}
-use Rattle.inspector_runs.proofs.Statements.{goes_end, goes_put, goes_count}
-use Rattle.inspector_runs.proofs.Memories.{other_way, in_line, in_other, agrees_put, made_ptr, same_place}
+use Rattle.inspector_runs.proofs.Statements.{goes_end, goes_put}
+use Rattle.inspector_runs.proofs.Memories.{in_line, in_other, agrees_put, made_ptr, same_place}
 use Rattle.inspector_runs.proofs.Marking.{Turn, entry_goes, count_is}
 
 from_zero : (n : ℕ) → pos 0 ≤ℤ pos n

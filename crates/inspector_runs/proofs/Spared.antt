@@ -1,8 +1,8 @@
 -- Steps on own arrays leave all other arrays.
-use Rattle.std.proofs.Common.{◌≡◌, refl, sym, ap, ◌∙◌, ℕ, ℤ, pos, Bool, true, false, ◌&&◌, List, arith, if◌then◌else◌}
+use Rattle.std.proofs.Common.{◌≡◌, refl, sym, ap, ◌∙◌, ℤ, pos, Bool, true, false, ◌&&◌, List, arith, if◌then◌else◌}
 use Rattle.c_meaning.specs.Names.{Name, same_name, same_numbers}
-use Rattle.c_meaning.specs.Memory.{Memory, Spot, same_spot}
-use Rattle.c_meaning.specs.Ground.{Step, perform, updated, worth}
+use Rattle.c_meaning.specs.Memory.{Memory}
+use Rattle.c_meaning.specs.Ground.{Step, updated, worth}
 use Rattle.c_meaning.specs.Run.{put_in, with_extents, declared, assign, do_deed}
 use Rattle.c_meaning.proofs.Spots.{pointwise_equal, name_is, unread_cell}
 use Rattle.inspector_runs.specs.Shown.{Spares}

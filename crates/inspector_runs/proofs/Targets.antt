@@ -1,5 +1,5 @@
 -- Cells with several subscripts, assignments to data, and arrays with inner extents.
-use Rattle.std.proofs.Common.{◌≡◌, refl, sym, ap, ◌∙◌, ℕ, ◌+◌, ◌*◌, ◌≤◌, ◌<◌, ℤ, pos, Bool, true, false, ◌&&◌, List, [], ◌∷◌, Ok, Err, arith, nat_eq, int_le, if◌then◌else◌}
+use Rattle.std.proofs.Common.{◌≡◌, refl, sym, ap, ◌∙◌, ℕ, ◌+◌, ◌*◌, ◌≤◌, ◌<◌, ℤ, pos, Bool, true, false, ◌&&◌, List, [], ◌∷◌, Ok, Err, arith, nat_eq, if◌then◌else◌}
 use Rattle.std.proofs.lemmas.Int.{ints}
 use Rattle.std.specs.List.{list_all}
 use Rattle.c_meaning.specs.Inputs.{three}
@@ -13,7 +13,7 @@ use Rattle.c_tree.specs.declared.statement.How.{How}
 use Rattle.c_meaning.specs.declared.fault.EvalFault.TheVariants.{Outside, Range}
 use Rattle.c_meaning.specs.Names.{Name, same_numbers}
 use Rattle.c_meaning.specs.Weighed.{greatest}
-use Rattle.c_meaning.specs.Value.{Answer, ◌>>=◌, Sight, is_inside, subscripts_of, value_of, three_answers}
+use Rattle.c_meaning.specs.Value.{◌>>=◌, Sight, is_inside, subscripts_of, value_of, three_answers}
 use Rattle.c_meaning.specs.Memory.{Spot, Memory, Env, sight_of}
 use Rattle.c_meaning.specs.Ground.{Step, load}
 use Rattle.c_meaning.specs.Listing.{spot, assigned, scene_of}

@@ -1,20 +1,18 @@
 -- The marking lines on a matrix: no fault, the turns, and the kept values.
-use Rattle.std.proofs.Common.{◌≡◌, refl, sym, ap, ◌∙◌, subst, ℕ, zero, suc, ◌+◌, ◌-◌, ◌≤◌, ◌<◌, ℤ, pos, ◌+ℤ◌, ◌-ℤ◌, ◌≤ℤ◌, ◌<ℤ◌, List, [], ◌∷◌, ◌++◌, length, Ok, arith}
+use Rattle.std.proofs.Common.{◌≡◌, refl, ap, ◌∙◌, ℕ, suc, ◌+◌, ◌≤◌, ℤ, pos, ◌+ℤ◌, ◌-ℤ◌, ◌<ℤ◌, List, [], ◌++◌, length, arith}
 use Rattle.std.proofs.lemmas.Int.{ints}
 use Rattle.std.proofs.lemmas.List.{append-nil}
-use Rattle.c_meaning.specs.Names.{Name, Place, line}
-use Rattle.c_meaning.specs.Weighed.{greatest}
+use Rattle.c_meaning.specs.Names.{Place}
 use Rattle.c_meaning.specs.Memory.{Memory, Env}
-use Rattle.sparse_marks.specs.Kept.{Placed, kept, kept_before, start, nth}
+use Rattle.sparse_marks.specs.Kept.{Placed, kept, kept_before, nth}
 use Rattle.sparse_marks.specs.Marks.{Marks, unmarked, Follows}
-use Rattle.sparse_marks.specs.Walks.{Walk, row_met, met_before, rows_seen, marks_in, marks_of, Rising, sum_below}
+use Rattle.sparse_marks.specs.Walks.{Walk, row_met, met_before, marks_in, marks_of, sum_below}
 use Rattle.sparse_marks.proofs.Walking.{within, at_end, start_bound, values_bound}
 use Rattle.inspector_runs.specs.Rules.{Leads}
 use Rattle.inspector_runs.specs.Texts.{Arrays, Text, Loops, marking_lines}
-use Rattle.inspector_runs.specs.Shown.{long, Agrees, Sizes, Shows, Left, Fits}
+use Rattle.inspector_runs.specs.Shown.{long, Sizes, Shows, Left, Fits}
 use Rattle.inspector_runs.specs.Laws.{MarkingLeavesKeptValues}
 use Rattle.inspector_runs.proofs.Statements.{weaker}
-use Rattle.inspector_runs.proofs.Marking.{Turn}
 use Rattle.inspector_runs.proofs.Nests.{Nest, nest_goes}
 
 below_less : (v w : ℤ) → (v -ℤ w) +ℤ w ≡ v

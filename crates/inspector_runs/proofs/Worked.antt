@@ -1,24 +1,24 @@
 -- The worked matrix meets what the laws ask for, and what its runs leave.
-use Rattle.std.proofs.Common.{◌≡◌, inr, refl, sym, ap, ◌∙◌, ℕ, zero, suc, ◌+◌, ◌≤◌, ◌<◌, ℤ, pos, ◌+ℤ◌, ◌-ℤ◌, ◌≤ℤ◌, ◌<ℤ◌, Bool, false, List, [], ◌∷◌, ◌++◌, Ok, arith}
+use Rattle.std.proofs.Common.{◌≡◌, inr, refl, sym, ap, ◌∙◌, ℕ, zero, suc, ◌+◌, ◌≤◌, ◌<◌, ℤ, pos, ◌+ℤ◌, ◌-ℤ◌, ◌≤ℤ◌, ◌<ℤ◌, List, [], ◌∷◌, ◌++◌, Ok, arith}
 use Rattle.std.proofs.lemmas.Int.{ints}
 use Rattle.c_tree.specs.declared.index.Index.{Index}
 use Rattle.c_tree.specs.declared.index.Index.TheVariants.{Const, Var, At, Plus}
 use Rattle.c_meaning.specs.Names.{Name, line}
 use Rattle.c_meaning.specs.Weighed.{greatest, plain}
 use Rattle.c_meaning.specs.Value.{value_of}
-use Rattle.c_meaning.specs.Memory.{Memory, Env, sight_of}
+use Rattle.c_meaning.specs.Memory.{Memory, sight_of}
 use Rattle.c_meaning.specs.Run.{run}
 use Rattle.c_meaning.proofs.Equations.{measure-Const, measure-Var}
 use Rattle.sparse_marks.specs.Kept.{kept_before, start, nth}
 use Rattle.sparse_marks.specs.Marks.{unmarked}
 use Rattle.sparse_marks.specs.Matrices.{count}
-use Rattle.sparse_marks.specs.Walks.{Rising, met_before, sum_below}
+use Rattle.sparse_marks.specs.Walks.{met_before, sum_below}
 use Rattle.sparse_marks.specs.Examples.{three_by_four}
 use Rattle.inspector_runs.specs.Rules.{Goes, run_at}
 use Rattle.inspector_runs.specs.Texts.{cell, marking_lines, kept_lines}
-use Rattle.inspector_runs.specs.Shown.{long, Agrees, Apart, Shows, Left, Gives, Fits, cleared, SizesFit, row_env, turn_env}
+use Rattle.inspector_runs.specs.Shown.{Agrees, Shows, Left, Fits, cleared, SizesFit, row_env, turn_env}
 use Rattle.inspector_runs.specs.Laws.{sizes}
-use Rattle.inspector_runs.specs.Examples.{made, index_name, column_name, row_name, entry_name, text, loops, parameters, memory, columns, marking, keeping, first_cells}
+use Rattle.inspector_runs.specs.Examples.{made, index_name, column_name, row_name, entry_name, text, loops, parameters, memory, columns, first_cells}
 use Rattle.inspector_runs.proofs.Values.{inside_long, value_by, value_read, value_const, value_var, value_plus}
 use Rattle.inspector_runs.proofs.Whole.{leaves}
 use Rattle.inspector_runs.proofs.Heads.{lines_leave, no_rows}

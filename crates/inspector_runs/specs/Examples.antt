@@ -1,6 +1,5 @@
 -- A worked matrix whose single columns are kept row by row.
 use Rattle.std.specs.Prelude.{ℕ, zero, suc, ◌+◌, ℤ, pos, List, [], ◌∷◌, ◌++◌, codes, if◌then◌else◌}
-use Rattle.c_tree.specs.declared.index.Index.{Index}
 use Rattle.c_tree.specs.declared.index.Index.TheVariants.{Const, Var, At, Plus}
 use Rattle.c_meaning.specs.Names.{Name, same_name, line}
 use Rattle.c_meaning.specs.Memory.{Memory, Env}
@@ -10,8 +9,7 @@ use Rattle.sparse_marks.specs.Walks.{Walk}
 use Rattle.sparse_marks.specs.Examples.{three_by_four}
 use Rattle.inspector_runs.specs.Rules.{run_at}
 use Rattle.inspector_runs.specs.Texts.{Arrays, Text, Loops, cell, marking_lines, kept_lines}
-use Rattle.inspector_runs.specs.Shown.{long, Sizes}
-use Rattle.inspector_runs.specs.Laws.{sizes}
+use Rattle.inspector_runs.specs.Shown.{long}
 
 abbrev pub made : Arrays
 made = record { ptr = codes "b_ptr"; val = codes "b_val"; num = codes "b_num"; mark = codes "b_mark" }

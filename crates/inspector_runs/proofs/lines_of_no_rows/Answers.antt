@@ -1,4 +1,4 @@
-use Rattle.std.proofs.Common.{ap, arith, pos, [], ◌∷◌}
+use Rattle.std.proofs.Common.{ap, arith, [], ◌∷◌}
 use Rattle.inspector_runs.proofs.Heads.{no_rows as law}
 use Rattle.inspector_runs.proofs.Worked.{fits_cleared, sizes_are, keeps_none}
 use Rattle.inspector_runs.proofs.lines_of_no_rows.Goals as goal
