@@ -1,31 +1,29 @@
 -- The lines of a compacted level without a layout, on any matrix.
-use Rattle.std.proofs.Common.{◌≡◌, refl, sym, ap, ◌∙◌, subst, ℕ, zero, suc, ◌+◌, ◌-◌, ◌*◌, ◌≤◌, ◌<◌, ◌^◌, ℤ, pos, negsuc, ◌+ℤ◌, ◌-ℤ◌, ◌≤ℤ◌, ◌<ℤ◌, Bool, true, false, List, [], ◌∷◌, ◌++◌, map, Ok, arith, unsigned_abs}
+use Rattle.std.proofs.Common.{◌≡◌, refl, sym, ap, ◌∙◌, subst, ℕ, zero, suc, ◌+◌, ◌*◌, ◌≤◌, ◌<◌, ℤ, pos, ◌+ℤ◌, ◌-ℤ◌, ◌≤ℤ◌, ◌<ℤ◌, Bool, true, List, [], map, Ok, arith}
 use Rattle.std.proofs.lemmas.Int.{ints}
 use Rattle.std.proofs.lemmas.Slice.Eq.{bytes_eq-Decides}
 use Rattle.c_tree.specs.declared.program.Matrix.{Matrix}
 use Rattle.c_tree.specs.declared.index.Index.{Index}
 use Rattle.c_tree.specs.declared.index.Index.TheVariants.{Const, Var, At, Plus, Max}
-use Rattle.c_tree.specs.declared.statement.Stmt.{Stmt}
-use Rattle.c_meaning.specs.Names.{Name, same_name, line}
+use Rattle.c_meaning.specs.Names.{line}
 use Rattle.c_meaning.specs.Weighed.{greatest, plain}
 use Rattle.c_meaning.specs.Value.{measure, value_of}
 use Rattle.c_meaning.specs.Memory.{Memory, Env, sight_of}
 use Rattle.c_meaning.specs.Run.{run}
-use Rattle.c_meaning.proofs.Equations.{measure-Const, measure-Var}
 use Rattle.inspectors.specs.declared.names.MarkNames.{MarkNames}
 use Rattle.inspectors.specs.Trees.{row_name, entry_name}
 use Rattle.inspectors.specs.Expressions.{column, is_square, value, offset, width, group, next_group, pointers}
 use Rattle.inspectors.specs.Marks.{mark_lines, compact_lines}
-use Rattle.sparse_marks.specs.Matrices.{Csr, IsCsr, Entry, count, entries_before, entries}
+use Rattle.sparse_marks.specs.Matrices.{Csr, Entry, count, entries_before, entries}
 use Rattle.sparse_marks.specs.Forms.{Form, group_by, groups_by, groups, placed, value_at, least_value, greatest_value}
-use Rattle.sparse_marks.specs.Walks.{Walk, walk, met_before, sum_below}
+use Rattle.sparse_marks.specs.Walks.{walk, sum_below}
 use Rattle.sparse_marks.proofs.Ranges.{value_inside}
 use Rattle.sparse_marks.proofs.Telling.{met_is, rising_by, groups_above}
 use Rattle.inspector_runs.specs.Rules.{Goes}
-use Rattle.inspector_runs.specs.Texts.{Arrays, Text, Loops, cell, kept_lines}
-use Rattle.inspector_runs.specs.Shown.{long, is_made, Agrees, Gives, Fits, Left, cleared, SizesFit, row_env, turn_env}
+use Rattle.inspector_runs.specs.Texts.{Arrays, Text, cell, kept_lines}
+use Rattle.inspector_runs.specs.Shown.{Agrees, Gives, Fits, Left, cleared, SizesFit, row_env, turn_env}
 use Rattle.inspector_runs.specs.Laws.{sizes}
-use Rattle.inspector_runs.proofs.Values.{inside_long, measure_read, measure_plus, value_by, value_var}
+use Rattle.inspector_runs.proofs.Values.{inside_long, measure_read, value_by, value_var}
 use Rattle.inspector_runs.proofs.Heads.{lines_leave, no_rows}
 use Rattle.inspector_laws.specs.Ready.{Holds, NamesFit, arrays_of, IsSmallForm, group_of, compacted}
 use Rattle.inspector_laws.specs.Laws.{CompactLinesLeaveKeptValues}

@@ -1,5 +1,5 @@
 -- What padded rows hold while they are filled, entry by entry.
-use Rattle.std.proofs.Common.{◌≡◌, refl, sym, ap, ◌∙◌, subst, ℕ, zero, suc, ◌+◌, ◌<◌, Bool, true, false, ◌&&◌, arith, nat_eq, nat_lt, if◌then◌else◌}
+use Rattle.std.proofs.Common.{◌≡◌, refl, sym, ap, ◌∙◌, subst, ℕ, suc, ◌+◌, ◌<◌, Bool, true, false, ◌&&◌, arith, nat_eq, nat_lt, if◌then◌else◌}
 use Rattle.sparse_marks.specs.Matrices.{Csr, count}
 
 -- cell s of row r, behind j entries of row i

@@ -1,9 +1,8 @@
 -- The lines of padded rows, run on any matrix.
-use Rattle.std.proofs.Common.{◌≡◌, refl, sym, ap, ◌∙◌, subst, ℕ, zero, suc, ◌+◌, ◌-◌, ◌*◌, ◌≤◌, ◌<◌, ◌^◌, max, ℤ, pos, ◌+ℤ◌, ◌-ℤ◌, ◌≤ℤ◌, ◌<ℤ◌, Bool, true, false, ◌&&◌, ◌||◌, List, [], ◌∷◌, ◌++◌, Ok, arith, int_lt, nat_eq, nat_lt, unsigned_abs, if◌then◌else◌}
+use Rattle.std.proofs.Common.{◌≡◌, refl, sym, ap, ◌∙◌, subst, ℕ, suc, ◌+◌, ◌*◌, ◌≤◌, ◌<◌, ◌^◌, max, ℤ, pos, ◌+ℤ◌, ◌-ℤ◌, ◌≤ℤ◌, ◌<ℤ◌, Bool, true, false, ◌&&◌, List, [], ◌∷◌, Ok, arith, int_lt, nat_eq, nat_lt, if◌then◌else◌}
 use Rattle.std.proofs.lemmas.Int.{ints}
 use Rattle.std.proofs.Math.Nat.{mod-eq_of_lt, mul-le-mul, mul-one}
 use Rattle.c_tree.specs.declared.program.Matrix.{Matrix}
-use Rattle.c_tree.specs.declared.program.Kind.{Kind}
 use Rattle.c_tree.specs.declared.program.Kind.TheVariants.{Number, Position}
 use Rattle.c_tree.specs.declared.index.Index.{Index}
 use Rattle.c_tree.specs.declared.index.Index.TheVariants.{Const, Var, At, Plus, Minus}
@@ -12,27 +11,24 @@ use Rattle.c_tree.specs.declared.statement.How.TheVariants.{Add}
 use Rattle.c_tree.specs.declared.statement.Stmt.{Stmt}
 use Rattle.c_tree.specs.declared.statement.Stmt.TheVariants.{For, Declare, Grow}
 use Rattle.c_meaning.specs.Names.{Name, Place, same_name, same_numbers, line}
-use Rattle.c_meaning.specs.Weighed.{greatest, plain}
-use Rattle.c_meaning.specs.Value.{Answer, ◌>>=◌, Sight, is_inside, measure, value_of, all_hold, subscripts_of, three_answers}
-use Rattle.c_meaning.specs.Memory.{Memory, Env, Spot, same_spot, sight_of, bound}
-use Rattle.c_meaning.specs.Ground.{Step, load, written, wrapped}
+use Rattle.c_meaning.specs.Weighed.{greatest}
+use Rattle.c_meaning.specs.Value.{Answer, ◌>>=◌, is_inside, value_of, all_hold, subscripts_of}
+use Rattle.c_meaning.specs.Memory.{Memory, Env, sight_of}
+use Rattle.c_meaning.specs.Ground.{Step, load, wrapped}
 use Rattle.c_meaning.specs.Listing.{spot, scene_of}
 use Rattle.c_meaning.specs.Run.{run, put, grow, grown, declare, assign, do_deed, put_in, with_extents, declared}
-use Rattle.c_meaning.proofs.Equations.{measure-Const, subscripts-One}
 use Rattle.c_meaning.proofs.Spots.{name_self}
 use Rattle.inspectors.specs.declared.names.RowNames.{RowNames}
-use Rattle.inspectors.specs.Trees.{row_name, entry_name, cell_of_two, plus_one}
+use Rattle.inspectors.specs.Trees.{row_name, entry_name}
 use Rattle.inspectors.specs.Expressions.{column}
 use Rattle.inspectors.specs.Rows.{row_length, longest as longest_so_far, longer, put_width, widen, cell_in_row, padded, padded_lines}
-use Rattle.sparse_marks.specs.Matrices.{Csr, IsCsr, count}
-use Rattle.sparse_marks.specs.Walks.{sum_below}
+use Rattle.sparse_marks.specs.Matrices.{Csr, count}
 use Rattle.sparse_layouts.specs.Padded.{longest, width}
 use Rattle.sparse_layouts.proofs.Widths.{covers, least}
 use Rattle.inspector_runs.specs.Rules.{Goes, Leads}
-use Rattle.inspector_runs.specs.Texts.{Loops, cell}
+use Rattle.inspector_runs.specs.Texts.{cell}
 use Rattle.inspector_runs.specs.Shown.{long, Spares, row_env, turn_env}
-use Rattle.inspector_runs.proofs.Goes.{in_all}
-use Rattle.inspector_runs.proofs.Values.{inside_long, measure_read, value_by, value_read, value_const, put_line, grow_value}
+use Rattle.inspector_runs.proofs.Values.{inside_long, measure_read, value_read, value_const, put_line, grow_value}
 use Rattle.inspector_runs.proofs.Targets.{subscripts_one, subscripts_two, inside_two, inside_extents, put_at, spot_at, assigned_at, declare_one, grow_inner, same_pair}
 use Rattle.inspector_runs.proofs.Statements.{goes_end, goes_put, goes_grow, goes_declare, goes_assign, goes_if, goes_count, weaker}
 use Rattle.inspector_runs.proofs.Memories.{other_way, in_same, in_line, in_other, long_same, long_other}
@@ -43,7 +39,7 @@ use Rattle.inspector_laws.specs.Ready.{Holds, HoldsValues, value_cell}
 use Rattle.inspector_laws.specs.Padding.{is_row_array, RowNamesFit, of_row, LeftRows, RowLinesPadRows}
 use Rattle.inspector_laws.proofs.Bounded.{Bounded, bounded_as, bounded_plain, bounded_const, bounded_var, bounded_plus, bounded_minus, value_bounded}
 use Rattle.inspector_laws.proofs.Sums.{large}
-use Rattle.inspector_laws.proofs.Expressions.{loops_of, row_there, other_there}
+use Rattle.inspector_laws.proofs.Expressions.{loops_of, row_there}
 use Rattle.inspector_laws.proofs.Matrices.{first_rises, next_first, place_in, all_entries}
 use Rattle.inspector_laws.proofs.Filling.{shown, shown_first, shown_here, shown_more, shown_next, shown_end}
 

@@ -1,26 +1,25 @@
 -- Where blocks and diagonals store an entry.
-use Rattle.std.proofs.Common.{◌≡◌, refl, sym, ap, ◌∙◌, subst, ℕ, zero, suc, ◌+◌, ◌-◌, ◌*◌, ◌/◌, ◌%◌, ◌≤◌, ◌<◌, ◌^◌, ℤ, pos, negsuc, ◌+ℤ◌, ◌-ℤ◌, ◌*ℤ◌, ◌≤ℤ◌, Bool, true, false, cond, List, [], ◌∷◌, ◌++◌, Ok, arith, unsigned_abs}
+use Rattle.std.proofs.Common.{◌≡◌, refl, sym, ap, ◌∙◌, ℕ, ◌+◌, ◌*◌, ◌/◌, ◌%◌, ◌≤◌, ◌<◌, ◌^◌, ℤ, pos, ◌+ℤ◌, ◌-ℤ◌, ◌*ℤ◌, Bool, true, false, cond, [], ◌∷◌, arith}
 use Rattle.std.proofs.lemmas.Int.{ints}
 use Rattle.std.proofs.lemmas.Nat.{div-add-mod'}
-use Rattle.std.proofs.Math.Nat.{mod-one, mod-lt, mul_comm, mul-le-mul, mul-le-mul_right, mul-one, zero-mul}
+use Rattle.std.proofs.Math.Nat.{mod-one, mod-lt, mul_comm, mul-le-mul, mul-le-mul_right, mul-one}
 use Rattle.std.proofs.Math.IntN.{zero-*ℤ}
 use Rattle.std.specs.Int.{int_div_euclid}
 use Rattle.std.specs.Ordering.{int_eq}
 use Rattle.std.proofs.lemmas.Bool.Decides.{Decides-int_eq}
 use Rattle.c_tree.specs.declared.program.Matrix.{Matrix}
 use Rattle.c_tree.specs.declared.program.Kind.TheVariants.{Number}
-use Rattle.c_tree.specs.declared.index.Index.{Index}
 use Rattle.c_tree.specs.declared.index.Index.TheVariants.{Const, Var, Minus, Times, Floor}
 use Rattle.c_tree.specs.declared.index.Subscripts.TheVariants.{Two, Three}
-use Rattle.c_meaning.specs.Names.{Name, line}
+use Rattle.c_meaning.specs.Names.{Name}
 use Rattle.c_meaning.specs.Weighed.{greatest}
-use Rattle.c_meaning.specs.Value.{Sight, value_of}
+use Rattle.c_meaning.specs.Value.{Sight}
 use Rattle.c_meaning.specs.Memory.{Memory, Env, sight_of}
 use Rattle.inspectors.specs.Trees.{row_name}
 use Rattle.inspectors.specs.Expressions.{column, value}
 use Rattle.inspectors.specs.Layouts.{row_in_block, column_in_block}
-use Rattle.sparse_marks.specs.Matrices.{Csr, entry_at, count}
-use Rattle.sparse_marks.specs.Forms.{Form, value_at}
+use Rattle.sparse_marks.specs.Matrices.{Csr}
+use Rattle.sparse_marks.specs.Forms.{value_at}
 use Rattle.sparse_layouts.specs.Layouts.{blocks, in_block, diagonals, in_diagonal}
 use Rattle.inspector_runs.specs.Texts.{Arrays}
 use Rattle.inspector_runs.proofs.Values.{value_const}
@@ -28,7 +27,7 @@ use Rattle.inspector_runs.proofs.Targets.{subscripts_two, subscripts_three, insi
 use Rattle.inspector_laws.specs.Ready.{IsSmallForm, Holds, compacted}
 use Rattle.inspector_laws.proofs.Bounded.{Bounded, bounded_as, bounded_const, bounded_minus, bounded_times, bounded_floor, bounded_var, value_bounded}
 use Rattle.inspector_laws.proofs.Sums.{part, large}
-use Rattle.inspector_laws.proofs.Expressions.{loops_of, SeesAll, value_has}
+use Rattle.inspector_laws.proofs.Expressions.{SeesAll, value_has}
 use Rattle.inspector_laws.proofs.Compacting.{text_of}
 use Rattle.inspector_laws.proofs.Storing.{place_text, Store}
 

@@ -1,10 +1,10 @@
 -- What a store into a layout needs and does: subscripts, cells, and the layout with an entry more.
-use Rattle.std.proofs.Common.{◌≡◌, refl, sym, ap, ◌∙◌, subst, ℕ, zero, suc, ◌+◌, ◌<◌, ℤ, pos, Bool, true, false, ◌&&◌, ◌||◌, List, [], ◌∷◌, ◌++◌, length, arith, nat_eq, nat_le, if◌then◌else◌, length-append}
+use Rattle.std.proofs.Common.{◌≡◌, refl, sym, ap, ◌∙◌, subst, ℕ, suc, ◌+◌, ◌<◌, ℤ, pos, Bool, true, false, ◌&&◌, List, [], ◌∷◌, ◌++◌, length, arith, nat_eq, nat_le, if◌then◌else◌, length-append}
 use Rattle.std.proofs.lemmas.Int.{ints}
 use Rattle.std.specs.Ordering.{int_eq}
 use Rattle.c_tree.specs.declared.statement.How.TheVariants.{Add}
-use Rattle.c_meaning.specs.Names.{Name, same_name, same_numbers}
-use Rattle.c_meaning.specs.Memory.{Memory, Spot, same_spot, Cells}
+use Rattle.c_meaning.specs.Names.{Name, same_numbers}
+use Rattle.c_meaning.specs.Memory.{Memory, same_spot}
 use Rattle.c_meaning.specs.Ground.{Step, load, wrapped, perform}
 use Rattle.c_meaning.specs.Run.{assign, do_deed}
 use Rattle.c_meaning.proofs.Spots.{pointwise_equal, name_is, name_self, numbers_self}

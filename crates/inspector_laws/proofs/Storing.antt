@@ -1,11 +1,10 @@
 -- The lines of a compacted level with a layout, run on any matrix.
-use Rattle.std.proofs.Common.{◌≡◌, refl, sym, ap, ◌∙◌, subst, ℕ, zero, suc, ◌+◌, ◌-◌, ◌*◌, ◌≤◌, ◌<◌, ◌^◌, ℤ, pos, ◌+ℤ◌, ◌-ℤ◌, ◌≤ℤ◌, ◌<ℤ◌, Bool, true, false, ◌&&◌, ◌||◌, List, [], ◌∷◌, ◌++◌, length, Ok, arith, nat_le, length-append, if◌then◌else◌}
+use Rattle.std.proofs.Common.{◌≡◌, refl, sym, ap, ◌∙◌, subst, ℕ, suc, ◌+◌, ◌-◌, ◌*◌, ◌≤◌, ◌<◌, ◌^◌, ℤ, pos, ◌+ℤ◌, ◌-ℤ◌, ◌≤ℤ◌, ◌<ℤ◌, Bool, true, ◌&&◌, List, [], ◌∷◌, ◌++◌, length, Ok, arith, nat_le, length-append, if◌then◌else◌}
 use Rattle.std.proofs.lemmas.Int.{ints}
 use Rattle.std.proofs.lemmas.List.{append-nil}
 use Rattle.std.proofs.Math.Nat.{mul-le-mul}
 use Rattle.c_tree.specs.declared.program.Matrix.{Matrix}
 use Rattle.c_tree.specs.declared.program.Kind.TheVariants.{Number, Position}
-use Rattle.c_tree.specs.declared.index.Cell.{Cell}
 use Rattle.c_tree.specs.declared.index.Index.{Index}
 use Rattle.c_tree.specs.declared.index.Index.TheVariants.{Const, Var, At, Minus}
 use Rattle.c_tree.specs.declared.index.Subscripts.{Subscripts}
@@ -17,17 +16,17 @@ use Rattle.c_meaning.specs.Names.{Name, Place, same_name, same_numbers, line}
 use Rattle.c_meaning.specs.Ground.{Step, perform}
 use Rattle.c_meaning.specs.Weighed.{greatest, plain, difference_of}
 use Rattle.c_meaning.specs.Value.{is_inside, measure, value_of, subscripts_of}
-use Rattle.c_meaning.specs.Memory.{Memory, Env, Spot, sight_of}
+use Rattle.c_meaning.specs.Memory.{Memory, Env, sight_of}
 use Rattle.c_meaning.specs.Listing.{spot, scene_of}
-use Rattle.c_meaning.specs.Run.{put, grow, grown, declare, assign, do_deed, put_in, with_extents, declared, declare_step}
+use Rattle.c_meaning.specs.Run.{put, grow, grown, declare, assign, do_deed, with_extents, declared, declare_step}
 use Rattle.c_meaning.proofs.Equations.{measure-Const}
 use Rattle.c_meaning.proofs.Spots.{name_self, unread_cell, or_left, or_right}
-use Rattle.inspectors.specs.Trees.{row_name, entry_name}
+use Rattle.inspectors.specs.Trees.{entry_name}
 use Rattle.sparse_marks.specs.Matrices.{Csr, Entry, entry_at}
 use Rattle.sparse_marks.specs.Matrices as of_matrix
 use Rattle.sparse_marks.specs.Kept.{Placed, kept, kept_before, start}
 use Rattle.sparse_marks.specs.Forms.{Form}
-use Rattle.sparse_marks.specs.Marks.{Marks, unmarked, marked, see, close, Follows}
+use Rattle.sparse_marks.specs.Marks.{Marks, unmarked, marked, Follows}
 use Rattle.sparse_marks.specs.Walks.{Walk, met_before, walk, marks_in, sum_below}
 use Rattle.sparse_marks.specs.Walks as of_walk
 use Rattle.sparse_marks.proofs.Walking.{within, values_bound}
@@ -36,7 +35,7 @@ use Rattle.sparse_layouts.specs.Laws.{HoldsSums}
 use Rattle.sparse_layouts.proofs.Laying.{holds_all}
 use Rattle.inspector_runs.specs.Rules.{Leads}
 use Rattle.inspector_runs.specs.Texts.{Arrays, Text, cell, count, new_test}
-use Rattle.inspector_runs.specs.Shown.{long, is_made, Agrees, Spares, Sizes, Shows, Left, Fits, cleared, SizesFit, row_env, turn_env}
+use Rattle.inspector_runs.specs.Shown.{is_made, Spares, Sizes, Shows, Left, Fits, cleared, SizesFit, row_env, turn_env}
 use Rattle.inspector_runs.specs.Laws.{sizes}
 use Rattle.inspector_runs.proofs.Values.{inside_long, measure_read, measure_minus, value_by, value_const, value_var, put_line}
 use Rattle.inspector_runs.proofs.Targets.{subscripts_one, inside_extents, spot_at, assigned_at, grow_inner}
@@ -132,20 +131,30 @@ module _ (x : Matrix) (cols_first : Bool) (f : Form) (b : Arrays) (lay : Name) (
   -- the matrix stays
   holds_beside : (es : List ℤ) (under : Memory) → Holds x c under a → Holds x c (with_extents lay es under) a
   holds_beside es under g = record {
-    is_csr = g.is_csr; rows = g.rows; cols = g.cols; index = g.index; col = g.col;
+    is_csr = g.is_csr;
+    rows = g.rows;
+    cols = g.cols;
+    index = g.index;
+    col = g.col;
     index_long = long_other lay x.index es under d.index ∙ g.index_long;
     col_long = long_other lay x.col es under d.col ∙ g.col_long;
-    rows_small = g.rows_small; cols_small = g.cols_small; entries_small = g.entries_small;
+    rows_small = g.rows_small;
+    cols_small = g.cols_small;
+    entries_small = g.entries_small;
   }
 
   holds_declared : (es : List ℤ) → Holds x c (declared lay es m) a
   holds_declared es = record {
-    is_csr = h.is_csr; rows = h.rows; cols = h.cols;
+    is_csr = h.is_csr;
+    rows = h.rows;
+    cols = h.cols;
     index = λ r l. other_cell lay x.index es (line (pos r)) m d.index ∙ h.index r l;
     col = λ r l. other_cell lay x.col es (line (pos r)) m d.col ∙ h.col r l;
     index_long = other_long lay x.index es m d.index ∙ h.index_long;
     col_long = other_long lay x.col es m d.col ∙ h.col_long;
-    rows_small = h.rows_small; cols_small = h.cols_small; entries_small = h.entries_small;
+    rows_small = h.rows_small;
+    cols_small = h.cols_small;
+    entries_small = h.entries_small;
   }
 
   values_declared : (es : List ℤ) → HoldsValues x (declared lay es m) a
@@ -232,8 +241,16 @@ module _ (x : Matrix) (cols_first : Bool) (f : Form) (b : Arrays) (lay : Name) (
         (goes_end (env i j) p _ _ _ (record {
           under = do_deed (assign stored) q.under;
           holds = record {
-            is_csr = (q.holds).is_csr; rows = (q.holds).rows; cols = (q.holds).cols; index = (q.holds).index; col = (q.holds).col; index_long = (q.holds).index_long; col_long = (q.holds).col_long;
-            rows_small = (q.holds).rows_small; cols_small = (q.holds).cols_small; entries_small = (q.holds).entries_small;
+            is_csr = (q.holds).is_csr;
+            rows = (q.holds).rows;
+            cols = (q.holds).cols;
+            index = (q.holds).index;
+            col = (q.holds).col;
+            index_long = (q.holds).index_long;
+            col_long = (q.holds).col_long;
+            rows_small = (q.holds).rows_small;
+            cols_small = (q.holds).cols_small;
+            entries_small = (q.holds).entries_small;
           };
           values = record {
             value = λ r g. unread_cell (q.under).cells (lay_cell lay tail position in_cell) (value_cell x r) _ (ap (λ e. e && same_numbers (pos position ∷ (in_cell ++ tail)) (line (pos r))) d.value) ∙ (q.values).value r g;

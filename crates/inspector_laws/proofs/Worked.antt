@@ -1,5 +1,5 @@
 -- The worked matrices meet what the laws ask for, and what their runs leave.
-use Rattle.std.proofs.Common.{◌≡◌, refl, ap, ◌∙◌, subst, ℕ, zero, suc, ◌+◌, ◌≤◌, ◌<◌, ◌^◌, ℤ, pos, Bool, false, List, [], ◌∷◌, ◌++◌, map, arith}
+use Rattle.std.proofs.Common.{◌≡◌, refl, ap, ◌∙◌, ℕ, zero, suc, ◌≤◌, ◌<◌, ◌^◌, ℤ, pos, false, List, [], ◌∷◌, ◌++◌, map, arith}
 use Rattle.c_meaning.specs.Names.{Name, line}
 use Rattle.c_meaning.specs.Memory.{Memory}
 use Rattle.sparse_marks.specs.Matrices.{Csr, IsCsr, entries}

@@ -1,14 +1,13 @@
 -- What the runs of worked blocks and diagonals leave.
-use Rattle.std.proofs.Common.{◌≡◌, ℕ, ℤ, pos, false, List, [], ◌∷◌, map, refl, arith}
+use Rattle.std.proofs.Common.{ℕ, pos, false, [], ◌∷◌, map, arith}
 use Rattle.c_meaning.specs.Run.{run}
 use Rattle.inspectors.specs.Marks.{block_lines, diag_lines}
 use Rattle.sparse_marks.specs.Matrices.{Csr, entries}
-use Rattle.sparse_marks.specs.Kept.{Placed}
 use Rattle.sparse_marks.specs.Forms.{groups, placed}
 use Rattle.sparse_marks.specs.Examples.{three_by_four, repeated}
 use Rattle.sparse_layouts.specs.Layouts.{blocks, in_block, diagonals, in_diagonal}
 use Rattle.inspector_runs.specs.Rules.{Goes}
-use Rattle.inspector_laws.specs.Ready.{Holds, HoldsValues, arrays_of}
+use Rattle.inspector_laws.specs.Ready.{arrays_of}
 use Rattle.inspector_laws.specs.Layouts.{LaidOut}
 use Rattle.inspector_laws.specs.Examples.{names, parameters, memory, made, lay}
 use Rattle.inspector_laws.proofs.Layering.{lays_blocks, lays_diagonals}

@@ -1,5 +1,5 @@
 -- Padded rows in a memory.
-use Rattle.std.specs.Prelude.{◌≡◌, ℕ, ◌+◌, ◌<◌, pos, Bool, false, ◌||◌, List, [], ◌∷◌}
+use Rattle.std.specs.Prelude.{◌≡◌, ℕ, ◌+◌, ◌<◌, pos, Bool, false, ◌||◌, [], ◌∷◌}
 use Rattle.c_tree.specs.declared.program.Matrix.{Matrix}
 use Rattle.c_meaning.specs.Names.{Name, same_name, line}
 use Rattle.c_meaning.specs.Memory.{Memory, Env, Spot}

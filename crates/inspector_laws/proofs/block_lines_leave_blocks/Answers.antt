@@ -1,6 +1,6 @@
-use Rattle.std.proofs.Common.{refl, pos, [], ◌∷◌, arith}
+use Rattle.std.proofs.Common.{refl, pos, [], ◌∷◌}
 use Rattle.inspector_laws.proofs.Layering.{lays_blocks as law}
-use Rattle.inspector_laws.proofs.Worked.{worked_holds, worked_values, repeated_holds, repeated_values, worked_names, worked_lay_names}
+use Rattle.inspector_laws.proofs.Worked.{repeated_holds, repeated_values, worked_names, worked_lay_names}
 use Rattle.inspector_laws.proofs.WorkedLayouts.{blocks_of_four, blocks_of_repeated}
 use Rattle.inspector_laws.proofs.block_lines_leave_blocks.Goals as goal
 

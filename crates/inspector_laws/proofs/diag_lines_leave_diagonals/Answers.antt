@@ -1,6 +1,5 @@
-use Rattle.std.proofs.Common.{refl, pos, negsuc, [], ◌∷◌, arith}
+use Rattle.std.proofs.Common.{refl, pos, negsuc, [], ◌∷◌}
 use Rattle.inspector_laws.proofs.Layering.{lays_diagonals as law}
-use Rattle.inspector_laws.proofs.Worked.{worked_holds, worked_values, repeated_holds, repeated_values, worked_names, worked_lay_names}
 use Rattle.inspector_laws.proofs.WorkedLayouts.{diagonals_of_four, diagonals_of_repeated}
 use Rattle.inspector_laws.proofs.diag_lines_leave_diagonals.Goals as goal
 
