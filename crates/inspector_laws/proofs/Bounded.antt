@@ -1,17 +1,17 @@
 -- Expressions that have a value, with a bound on its weight.
-use Rattle.std.proofs.Common.{◌≡◌, refl, sym, ap, ◌∙◌, subst, ℕ, zero, suc, ◌+◌, ◌*◌, ◌/◌, max, ◌≤◌, ◌^◌, ℤ, pos, negsuc, ◌+ℤ◌, ◌-ℤ◌, ◌*ℤ◌, neg_ℤ, Bool, true, false, cond, List, [], ◌∷◌, Option, Some, None, Ok, arith, unsigned_abs, if◌then◌else◌}
+use Rattle.std.proofs.Common.{◌≡◌, refl, sym, ap, ◌∙◌, subst, ℕ, zero, suc, ◌+◌, ◌*◌, ◌/◌, max, ◌≤◌, ℤ, pos, negsuc, ◌+ℤ◌, ◌-ℤ◌, ◌*ℤ◌, neg_ℤ, Bool, true, false, cond, List, Option, Some, None, Ok, arith, unsigned_abs}
 use Rattle.std.proofs.lemmas.Int.{ints}
 use Rattle.std.proofs.Math.Nat.{mul-le-mul_left, one-mul, zero-mul, div-le_self}
 use Rattle.std.specs.Ordering.{int_eq}
 use Rattle.std.specs.Int.Signed.{lt_z}
 use Rattle.std.proofs.lemmas.Bool.Decides.{Decides-int_eq}
 use Rattle.c_tree.specs.declared.index.Index.{Index}
-use Rattle.c_tree.specs.declared.index.Index.TheVariants.{Const, Var, At, Neg, Plus, Minus, Times, Floor, Ceil, Max}
+use Rattle.c_tree.specs.declared.index.Index.TheVariants.{Const, Var, Neg, Plus, Minus, Times, Floor, Ceil, Max}
 use Rattle.c_meaning.specs.Weighed.{Weighed, greatest, plain, negated, sum_of, difference_of, multiple_of, greater_of, floor_of, ceil_of}
-use Rattle.c_meaning.specs.Value.{Sight, ◌>>=◌, measure, value_of, on_one, on_two}
+use Rattle.c_meaning.specs.Value.{Sight, measure, value_of, on_one, on_two}
 use Rattle.c_meaning.proofs.Equations.{measure-Const, measure-Var, measure-Neg, measure-Times, measure-Ceil, measure-Max}
 use Rattle.std.specs.Int.{int_div_euclid, int_max}
-use Rattle.inspectors.specs.Trees.{with_multiple, joined, multiple, closed, with_constant, first_part, next_part}
+use Rattle.inspectors.specs.Trees.{with_multiple, joined, multiple, with_constant, first_part, next_part}
 use Rattle.inspector_runs.proofs.Values.{value_by, measure_plus, measure_minus, measure_floor}
 
 -- the expression has this value, and its weight is at most w

@@ -1,31 +1,29 @@
 -- The lines of a compacted level without a layout, on any matrix.
-use Rattle.std.proofs.Common.{◌≡◌, refl, sym, ap, ◌∙◌, subst, ℕ, zero, suc, ◌+◌, ◌-◌, ◌*◌, ◌≤◌, ◌<◌, ◌^◌, ℤ, pos, negsuc, ◌+ℤ◌, ◌-ℤ◌, ◌≤ℤ◌, ◌<ℤ◌, Bool, true, false, List, [], ◌∷◌, ◌++◌, map, Ok, arith, unsigned_abs}
+use Rattle.std.proofs.Common.{◌≡◌, refl, sym, ap, ◌∙◌, subst, ℕ, zero, suc, ◌+◌, ◌*◌, ◌≤◌, ◌<◌, ℤ, pos, ◌+ℤ◌, ◌-ℤ◌, ◌≤ℤ◌, ◌<ℤ◌, Bool, true, List, [], map, Ok, arith}
 use Rattle.std.proofs.lemmas.Int.{ints}
 use Rattle.std.proofs.lemmas.Slice.Eq.{bytes_eq-Decides}
 use Rattle.c_tree.specs.declared.program.Matrix.{Matrix}
 use Rattle.c_tree.specs.declared.index.Index.{Index}
 use Rattle.c_tree.specs.declared.index.Index.TheVariants.{Const, Var, At, Plus, Max}
-use Rattle.c_tree.specs.declared.statement.Stmt.{Stmt}
-use Rattle.c_meaning.specs.Names.{Name, same_name, line}
+use Rattle.c_meaning.specs.Names.{line}
 use Rattle.c_meaning.specs.Weighed.{greatest, plain}
 use Rattle.c_meaning.specs.Value.{measure, value_of}
 use Rattle.c_meaning.specs.Memory.{Memory, Env, sight_of}
 use Rattle.c_meaning.specs.Run.{run}
-use Rattle.c_meaning.proofs.Equations.{measure-Const, measure-Var}
 use Rattle.inspectors.specs.declared.names.MarkNames.{MarkNames}
 use Rattle.inspectors.specs.Trees.{row_name, entry_name}
 use Rattle.inspectors.specs.Expressions.{column, is_square, value, offset, width, group, next_group, pointers}
 use Rattle.inspectors.specs.Marks.{mark_lines, compact_lines}
-use Rattle.sparse_marks.specs.Matrices.{Csr, IsCsr, Entry, count, entries_before, entries}
+use Rattle.sparse_marks.specs.Matrices.{Csr, Entry, count, entries_before, entries}
 use Rattle.sparse_marks.specs.Forms.{Form, group_by, groups_by, groups, placed, value_at, least_value, greatest_value}
-use Rattle.sparse_marks.specs.Walks.{Walk, walk, met_before, sum_below}
+use Rattle.sparse_marks.specs.Walks.{walk, sum_below}
 use Rattle.sparse_marks.proofs.Ranges.{value_inside}
 use Rattle.sparse_marks.proofs.Telling.{met_is, rising_by, groups_above}
 use Rattle.inspector_runs.specs.Rules.{Goes}
-use Rattle.inspector_runs.specs.Texts.{Arrays, Text, Loops, cell, kept_lines}
-use Rattle.inspector_runs.specs.Shown.{long, is_made, Agrees, Gives, Fits, Left, cleared, SizesFit, row_env, turn_env}
+use Rattle.inspector_runs.specs.Texts.{Arrays, Text, cell, kept_lines}
+use Rattle.inspector_runs.specs.Shown.{Agrees, Gives, Fits, Left, cleared, SizesFit, row_env, turn_env}
 use Rattle.inspector_runs.specs.Laws.{sizes}
-use Rattle.inspector_runs.proofs.Values.{inside_long, measure_read, measure_plus, value_by, value_var}
+use Rattle.inspector_runs.proofs.Values.{inside_long, measure_read, value_by, value_var}
 use Rattle.inspector_runs.proofs.Heads.{lines_leave, no_rows}
 use Rattle.inspector_laws.specs.Ready.{Holds, NamesFit, arrays_of, IsSmallForm, group_of, compacted}
 use Rattle.inspector_laws.specs.Laws.{CompactLinesLeaveKeptValues}
@@ -35,7 +33,7 @@ use Rattle.inspector_laws.proofs.Expressions.{loops_of, row_there, other_there, 
 use Rattle.inspector_laws.proofs.Matrices.{first_rises, next_first, place_in, all_entries, group_inside, below_natural}
 
 -- the expressions of the lines
-abbrev text_of : Matrix → Bool → Form → Text
+abbrev pub text_of : Matrix → Bool → Form → Text
 text_of x cols_first f = record {
   value = value (compacted x cols_first f);
   from_low = offset (compacted x cols_first f);
@@ -43,10 +41,10 @@ text_of x cols_first f = record {
   next_group = next_group (group_of f.rows);
 }
 
-abbrev starts_of : Matrix → Form → Index
+abbrev pub starts_of : Matrix → Form → Index
 starts_of x f = pointers x (group_of f.rows)
 
-abbrev marks_of : Matrix → Bool → Form → Index
+abbrev pub marks_of : Matrix → Bool → Form → Index
 marks_of x cols_first f = Max (Const (pos 0)) (width (compacted x cols_first f))
 
 lines_are : (x : Matrix) (cols_first : Bool) (f : Form) (b : MarkNames) → compact_lines (compacted x cols_first f) b ≡ kept_lines (arrays_of b) (text_of x cols_first f) (loops_of x) (starts_of x f) (marks_of x cols_first f)
@@ -105,7 +103,7 @@ module _ (x : Matrix) (cols_first : Bool) (f : Form) (b : Arrays) (c : Env) (m :
     column_small : a.col (a.first i + j) ≤ large
     column_small = let p = h.cols_small in let q : a.col (a.first i + j) < a.cols = (h.is_csr).column (a.first i + j) inside in up (a.col (a.first i + j)) a.cols large (omega (arith, q)) p
 
-    sees_all : SeesAll x (sight_of (turn_env (loops_of x) c i (a.first i) j) m') i a.rows a.cols (a.col (a.first i + j))
+    pub sees_all : SeesAll x (sight_of (turn_env (loops_of x) c i (a.first i) j) m') i a.rows a.cols (a.col (a.first i + j))
     sees_all = record {
       row = bounded_var row_name _ i large (row_there x c i (a.first i) j) (row_small i l);
       rows = bounded_var x.rows _ a.rows large (other_there x c i (a.first i) j x.rows n.entry_rows n.row_rows ∙ h.rows) h.rows_small;
@@ -183,8 +181,8 @@ module _ (x : Matrix) (cols_first : Bool) (f : Form) (b : Arrays) (c : Env) (m :
     not_below : (v l : ℤ) → l ≤ℤ v → pos 0 ≤ℤ (v -ℤ l)
     not_below v l p = omega (arith, ints, p)
 
-    fits : Fits b (text_of x cols_first f) (loops_of x) c (cleared b m) (sizes (least_value f a) (suc (groups_by f.rows a.rows)) (natural ((greatest_value f a -ℤ least_value f a) +ℤ pos 1))) a.rows a.first (walk f (λ e. []) a)
-    fits = record {
+    pub fits : (rest : Entry → List ℤ) → Fits b (text_of x cols_first f) (loops_of x) c (cleared b m) (sizes (least_value f a) (suc (groups_by f.rows a.rows)) (natural ((greatest_value f a -ℤ least_value f a) +ℤ pos 1))) a.rows a.first (walk f rest a)
+    fits rest = record {
       apart = n.apart;
       rising = rising_by f.rows;
       rows_are = λ m'. value_bounded _ _ (pos a.rows) large (rows_bounded m') large_fits;
@@ -204,7 +202,7 @@ module _ (x : Matrix) (cols_first : Bool) (f : Form) (b : Arrays) (c : Env) (m :
         small_sum : (s t : ℕ) → s ≡ t → t ≤ large → s + 2 ≤ greatest
         small_sum s t e p = up (s + 2) (large + 2) greatest (omega (arith, e, p)) next_fits
 
-    sizes_fit : SizesFit b c (cleared b m) (starts_of x f) (marks_of x cols_first f) (suc (groups_by f.rows a.rows)) (natural ((greatest_value f a -ℤ least_value f a) +ℤ pos 1))
+    pub sizes_fit : SizesFit b c (cleared b m) (starts_of x f) (marks_of x cols_first f) (suc (groups_by f.rows a.rows)) (natural ((greatest_value f a -ℤ least_value f a) +ℤ pos 1))
     sizes_fit = record {
       starts_are = λ m' g. value_bounded _ _ _ (large + 2) (starts_has m') next_fits;
       marks_are = λ m' g. value_bounded _ _ _ (10 * part + 1) (marks_has m') sum_fits;
@@ -226,11 +224,11 @@ module _ (x : Matrix) (cols_first : Bool) (f : Form) (b : Arrays) (c : Env) (m :
         (subst (λ es. Goes (run (kept_lines b (text_of x cols_first f) (loops_of x) (starts_of x f) (marks_of x cols_first f)) c) m (suc m0 + sum_below (count a) (suc m0)) (Left b (cleared b m) es (suc (group_by f.rows m0)))) (met_is f (λ e. []) a (suc m0))
         (lines_leave b (text_of x cols_first f) (loops_of x) (starts_of x f) (marks_of x cols_first f) c m (least_value f a) (suc (groups_by f.rows a.rows)) (natural ((greatest_value f a -ℤ least_value f a) +ℤ pos 1)) m0 a.first (walk f (λ e. []) a)
         sizes_fit
-        (subst (λ r. Fits b (text_of x cols_first f) (loops_of x) c (cleared b m) (sizes (least_value f a) (suc (groups_by f.rows a.rows)) (natural ((greatest_value f a -ℤ least_value f a) +ℤ pos 1))) r a.first (walk f (λ e. []) a)) q fits)))
+        (subst (λ r. Fits b (text_of x cols_first f) (loops_of x) c (cleared b m) (sizes (least_value f a) (suc (groups_by f.rows a.rows)) (natural ((greatest_value f a -ℤ least_value f a) +ℤ pos 1))) r a.first (walk f (λ e. []) a)) q (fits (λ e. [])))))
 
   -- no rows
   module _ (q : a.rows ≡ 0) where
-    none_fit : SizesFit b c (cleared b m) (starts_of x f) (marks_of x cols_first f) (suc (groups_by f.rows a.rows)) (natural (any_width f a.rows a.cols))
+    pub none_fit : SizesFit b c (cleared b m) (starts_of x f) (marks_of x cols_first f) (suc (groups_by f.rows a.rows)) (natural (any_width f a.rows a.cols))
     none_fit = record {
       starts_are = λ m' g. value_bounded _ _ _ (large + 2) (starts_has m') next_fits;
       marks_are = λ m' g. value_bounded _ _ _ (10 * part + 1) (marks_has m') sum_fits;
@@ -247,8 +245,8 @@ module _ (x : Matrix) (cols_first : Bool) (f : Form) (b : Arrays) (c : Env) (m :
     none : (i : ℕ) → i < 0 → ⊥
     none i l = omega (arith, l)
 
-    fits_none : Fits b (text_of x cols_first f) (loops_of x) c (cleared b m) (sizes (pos 0) (suc (groups_by f.rows a.rows)) (natural (any_width f a.rows a.cols))) 0 a.first (walk f (λ e. []) a)
-    fits_none = record {
+    pub fits_none : (rest : Entry → List ℤ) → Fits b (text_of x cols_first f) (loops_of x) c (cleared b m) (sizes (pos 0) (suc (groups_by f.rows a.rows)) (natural (any_width f a.rows a.cols))) 0 a.first (walk f rest a)
+    fits_none rest = record {
       apart = n.apart;
       rising = rising_by f.rows;
       rows_are = λ m'. value_bounded _ _ (pos a.rows) large (rows_bounded m') large_fits ∙ ap (λ r. Ok (pos r)) q;
@@ -263,7 +261,7 @@ module _ (x : Matrix) (cols_first : Bool) (f : Form) (b : Arrays) (c : Env) (m :
     }
 
     without_rows : (g : ℕ) → Goes (run (kept_lines b (text_of x cols_first f) (loops_of x) (starts_of x f) (marks_of x cols_first f)) c) m 0 (Left b (cleared b m) [] g)
-    without_rows g = no_rows b (text_of x cols_first f) (loops_of x) (starts_of x f) (marks_of x cols_first f) c m (pos 0) (suc (groups_by f.rows a.rows)) (natural (any_width f a.rows a.cols)) g a.first (walk f (λ e. []) a) none_fit fits_none
+    without_rows g = no_rows b (text_of x cols_first f) (loops_of x) (starts_of x f) (marks_of x cols_first f) c m (pos 0) (suc (groups_by f.rows a.rows)) (natural (any_width f a.rows a.cols)) g a.first (walk f (λ e. []) a) none_fit (fits_none (λ e. []))
 
   by_rows : (r : ℕ) → a.rows ≡ r → Goes (run (kept_lines b (text_of x cols_first f) (loops_of x) (starts_of x f) (marks_of x cols_first f)) c) m (r + sum_below (count a) r) (Left b (cleared b m) (map (placed f (λ e. [])) (entries_before a r)) (groups_by f.rows r))
   by_rows zero q = without_rows q (groups_by f.rows 0)

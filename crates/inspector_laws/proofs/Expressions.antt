@@ -1,31 +1,28 @@
 -- The values of an inspector's expressions in a turn.
-use Rattle.std.proofs.Common.{◌≡◌, refl, sym, ap, ◌∙◌, subst, ℕ, zero, suc, ◌+◌, ◌-◌, ◌*◌, ◌/◌, ◌≤◌, ◌<◌, ◌^◌, ℤ, pos, negsuc, ◌+ℤ◌, ◌-ℤ◌, ◌*ℤ◌, neg_ℤ, ◌≤ℤ◌, ◌<ℤ◌, Bool, true, false, cond, List, [], ◌∷◌, Ok, arith, unsigned_abs, if◌then◌else◌}
+use Rattle.std.proofs.Common.{◌≡◌, refl, sym, ap, ◌∙◌, ℕ, zero, suc, ◌+◌, ◌-◌, ◌*◌, ◌/◌, ◌<◌, ℤ, pos, ◌+ℤ◌, ◌-ℤ◌, ◌*ℤ◌, neg_ℤ, Bool, true, false, cond, arith, if◌then◌else◌}
 use Rattle.std.proofs.lemmas.Int.{ints}
 use Rattle.std.specs.Int.{int_div_euclid, int_min, int_max}
 use Rattle.std.specs.Ordering.{int_eq}
 use Rattle.std.proofs.lemmas.Bool.Decides.{Decides-int_eq}
-use Rattle.std.proofs.lemmas.Slice.Eq.{bytes_eq-Decides}
 use Rattle.std.proofs.Math.Nat.{div-one, zero-div, div-eq_of_lt}
 use Rattle.c_tree.specs.declared.program.Matrix.{Matrix}
 use Rattle.c_tree.specs.declared.index.Index.{Index}
-use Rattle.c_tree.specs.declared.index.Index.TheVariants.{Const, Var, At, Plus, Minus, Floor, Ceil}
-use Rattle.c_meaning.specs.Names.{Name, same_name, line}
-use Rattle.c_meaning.specs.Weighed.{greatest, plain}
-use Rattle.c_meaning.specs.Value.{Sight, measure, value_of}
-use Rattle.c_meaning.specs.Memory.{Memory, Env, sight_of, bound}
+use Rattle.c_tree.specs.declared.index.Index.TheVariants.{Const, Var, Minus, Floor, Ceil}
+use Rattle.c_meaning.specs.Names.{Name, same_name}
+use Rattle.c_meaning.specs.Value.{Sight}
+use Rattle.c_meaning.specs.Memory.{Env}
 use Rattle.inspectors.specs.declared.numbers.Sum.{Sum}
 use Rattle.inspectors.specs.Numbers.{IsSmall, value_sum, low_sum, high_sum, offset_sum, width_sum, falling, rising}
 use Rattle.inspectors.specs.Trees.{row_name, entry_name, plus_one}
 use Rattle.inspectors.specs.Expressions.{column, is_square, sum_text, text_of, quotient, value, offset, width, rows_below, rows_above, group, next_group, pointers}
-use Rattle.sparse_marks.specs.Matrices.{Csr, IsCsr, count}
+use Rattle.sparse_marks.specs.Matrices.{Csr}
 use Rattle.sparse_marks.specs.Forms.{Form, group_by, groups_by, value_at, least_value, greatest_value}
 use Rattle.sparse_marks.proofs.Telling.{groups_above}
-use Rattle.inspector_runs.specs.Texts.{Arrays, Loops, cell}
-use Rattle.inspector_runs.specs.Shown.{long, is_made, Agrees, row_env, turn_env}
-use Rattle.inspector_runs.proofs.Values.{inside_long, measure_read, value_var}
-use Rattle.inspector_laws.specs.Ready.{Holds, NamesFit, IsSmallForm, group_of, compacted}
-use Rattle.inspector_laws.proofs.Bounded.{Bounded, bounded_as, bounded_plain, bounded_const, bounded_var, bounded_plus, bounded_minus, bounded_floor, bounded_ceil, value_bounded}
-use Rattle.inspector_laws.proofs.Sums.{part, large, Sees, sum_value, text_has}
+use Rattle.inspector_runs.specs.Texts.{Loops}
+use Rattle.inspector_runs.specs.Shown.{row_env, turn_env}
+use Rattle.inspector_laws.specs.Ready.{IsSmallForm, group_of, compacted}
+use Rattle.inspector_laws.proofs.Bounded.{Bounded, bounded_as, bounded_const, bounded_plus, bounded_minus, bounded_floor, bounded_ceil}
+use Rattle.inspector_laws.proofs.Sums.{part, large, sum_value, text_has}
 use Rattle.inspector_laws.proofs.Numbers.{kept, falling_is, rising_is, value_small, low_small, high_small, offset_small, width_small, value_is, low_is, high_is, offset_is, width_is, by_one}
 
 -- the loops over a matrix

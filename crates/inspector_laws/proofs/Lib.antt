@@ -4,3 +4,11 @@ pub mod Numbers
 pub mod Expressions
 pub mod Matrices
 pub mod Compacting
+pub mod Filling
+pub mod Padding
+pub mod Stored
+pub mod Storing
+pub mod Placed
+pub mod Layering
+pub mod Worked
+pub mod WorkedLayouts

@@ -1,5 +1,5 @@
 -- The sums of a form, and what they are as values of its entries.
-use Rattle.std.proofs.Common.{◌≡◌, refl, sym, ap, ◌∙◌, subst, ℕ, zero, suc, ◌+◌, ◌-◌, ◌*◌, ◌/◌, ◌≤◌, ◌<◌, ◌^◌, ℤ, pos, negsuc, ◌+ℤ◌, ◌-ℤ◌, ◌*ℤ◌, neg_ℤ, ◌≤ℤ◌, Bool, true, false, cond, arith, unsigned_abs}
+use Rattle.std.proofs.Common.{◌≡◌, sym, ap, ◌∙◌, subst, ℕ, suc, ◌+◌, ◌≤◌, ◌^◌, ℤ, pos, negsuc, ◌+ℤ◌, ◌-ℤ◌, ◌*ℤ◌, neg_ℤ, false, cond, arith, unsigned_abs}
 use Rattle.std.proofs.lemmas.Int.{ints}
 use Rattle.std.specs.Int.{int_div_euclid, int_min, int_max}
 use Rattle.std.specs.Int.Signed.{lt_z}
@@ -7,10 +7,8 @@ use Rattle.std.proofs.Math.Nat.{one-mul, mul-one, div-one}
 use Rattle.std.proofs.Math.IntN.{zero-*ℤ}
 use Rattle.chill_base.proofs.Ring.{sum_times, times_sum, neg_times}
 use Rattle.inspectors.specs.declared.numbers.KeptForm.{KeptForm}
-use Rattle.inspectors.specs.declared.numbers.Sum.{Sum}
 use Rattle.inspectors.specs.Numbers.{IsSmall, falling, rising, value_sum, low_sum, high_sum, offset_sum, width_sum}
-use Rattle.sparse_marks.specs.Matrices.{Csr}
-use Rattle.sparse_marks.specs.Forms.{Form, value_at, least_value, greatest_value}
+use Rattle.sparse_marks.specs.Forms.{Form}
 use Rattle.inspector_laws.specs.Ready.{IsSmallForm}
 use Rattle.inspector_laws.proofs.Sums.{sum_value}
 

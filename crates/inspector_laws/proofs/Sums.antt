@@ -1,8 +1,7 @@
 -- The values of the sums that an inspector speaks of.
-use Rattle.std.proofs.Common.{◌≡◌, refl, sym, ap, ◌∙◌, subst, ℕ, zero, suc, ◌+◌, ◌*◌, ◌≤◌, ◌^◌, ℤ, pos, negsuc, ◌+ℤ◌, ◌-ℤ◌, ◌*ℤ◌, neg_ℤ, Bool, true, false, cond, Option, Some, None, Ok, arith, unsigned_abs}
+use Rattle.std.proofs.Common.{◌≡◌, refl, ap, ◌∙◌, ℕ, ◌+◌, ◌*◌, ◌≤◌, ◌^◌, ℤ, pos, ◌+ℤ◌, ◌*ℤ◌, Bool, true, false, cond, Option, None, arith, unsigned_abs}
 use Rattle.std.proofs.lemmas.Int.{ints}
 use Rattle.std.proofs.Math.Nat.{mul-le-mul_right}
-use Rattle.std.proofs.lemmas.Slice.Eq.{bytes_eq-Decides}
 use Rattle.chill_base.proofs.Ring.{sum_times}
 use Rattle.c_tree.specs.declared.program.Matrix.{Matrix}
 use Rattle.c_tree.specs.declared.index.Index.{Index}
@@ -10,7 +9,7 @@ use Rattle.c_tree.specs.declared.index.Index.TheVariants.{Var}
 use Rattle.c_meaning.specs.Value.{Sight}
 use Rattle.inspectors.specs.declared.numbers.Sum.{Sum}
 use Rattle.inspectors.specs.Numbers.{IsSmall}
-use Rattle.inspectors.specs.Trees.{row_name, with_multiple, with_constant}
+use Rattle.inspectors.specs.Trees.{row_name, with_multiple}
 use Rattle.inspectors.specs.Expressions.{column, is_square, with_sizes, sum_text}
 use Rattle.inspector_laws.proofs.Bounded.{Bounded, HasSum, bounded_as, sum_as, has_multiple, has_constant}
 

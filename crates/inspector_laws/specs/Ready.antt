@@ -2,7 +2,7 @@
 use Rattle.std.specs.Prelude.{◌≡◌, ℕ, zero, suc, ◌≤◌, ◌<◌, ◌^◌, pos, Bool, false, unsigned_abs}
 use Rattle.c_tree.specs.declared.program.Matrix.{Matrix}
 use Rattle.c_meaning.specs.Names.{same_name, line}
-use Rattle.c_meaning.specs.Memory.{Memory, Env}
+use Rattle.c_meaning.specs.Memory.{Memory, Spot, Env}
 use Rattle.inspectors.specs.declared.level.Compacted.{Compacted}
 use Rattle.inspectors.specs.declared.level.Group.{Group}
 use Rattle.inspectors.specs.declared.level.Group.TheVariants.{All, Rows}
@@ -25,6 +25,15 @@ pub record Holds (x : Matrix) (c : Env) (m : Memory) (a : Csr) : Type 0 where
   pub rows_small : a.rows ≤ 2 ^ 24
   pub cols_small : a.cols ≤ 2 ^ 24
   pub entries_small : a.first a.rows ≤ 2 ^ 24
+
+abbrev pub value_cell : Matrix → ℕ → Spot
+value_cell x k = record { array = x.value; at = line (pos k) }
+
+-- the matrix's array of values holds its entries' values
+pub record HoldsValues (x : Matrix) (m : Memory) (a : Csr) : Type 0 where
+  pub value : (k : ℕ) → k < a.first a.rows → m.cells (value_cell x k) ≡ a.worth k
+  pub value_long : m.extents x.value ≡ long (pos (a.first a.rows))
+  pub numbers : (k : ℕ) → k < a.first a.rows → a.worth k < 2 ^ 64
 
 -- the made arrays have names of their own, and the loop variables aren't the matrix's parameters
 pub record NamesFit (x : Matrix) (b : Arrays) : Type 0 where

@@ -1,12 +1,12 @@
 -- Runs without a fault, how many turns they make, and what is known of the memory behind them.
-use Rattle.std.proofs.Common.{◌≡◌, refl, sym, ap, ◌∙◌, subst, ℕ, zero, suc, ◌+◌, ◌<◌, ℤ, pos, negsuc, ◌+ℤ◌, ◌-ℤ◌, ◌≤ℤ◌, ◌<ℤ◌, Bool, true, false, List, [], ◌∷◌, ◌++◌, Option, Some, None, Ok, Err, arith}
+use Rattle.std.proofs.Common.{◌≡◌, refl, sym, ap, ◌∙◌, subst, ℕ, zero, suc, ◌+◌, ◌<◌, ℤ, pos, ◌+ℤ◌, ◌-ℤ◌, Option, Some, None, Ok, arith}
 use Rattle.std.proofs.lemmas.Int.{ints}
 use Rattle.c_meaning.specs.Value.{Answer}
 use Rattle.c_meaning.specs.Names.{Place}
 use Rattle.c_meaning.specs.Listing.{Trouble, above_zero}
-use Rattle.c_meaning.specs.Memory.{Memory, Env}
+use Rattle.c_meaning.specs.Memory.{Memory}
 use Rattle.inspector_runs.specs.Rules.{Goes}
-use Rattle.c_meaning.specs.Run.{Deed, do_deed, Outcome, Run, nothing, after, ◌⨾◌, given, given_by, performs, turn, turns, Part, sequence}
+use Rattle.c_meaning.specs.Run.{Deed, do_deed, Outcome, Run, nothing, after, ◌⨾◌, given, given_by, performs, turn, turns}
 
 pub goes_nothing : (m : Memory) (Q : Memory → Type 0) → Q m → Goes nothing m 0 Q
 goes_nothing m Q q = record { ends = refl; turned = refl; meets = q }

@@ -1,20 +1,21 @@
 -- Declarations and growths, run.
-use Rattle.std.proofs.Common.{◌≡◌, refl, sym, ap, ◌∙◌, subst, ℕ, zero, suc, ◌+◌, ◌≤◌, ℤ, pos, ◌+ℤ◌, Bool, true, false, ◌||◌, List, [], ◌∷◌, ◌++◌, Ok, arith, if◌then◌else◌}
+use Rattle.std.proofs.Common.{◌≡◌, refl, ap, ◌∙◌, ℕ, ◌+◌, ◌≤◌, ℤ, pos, ◌+ℤ◌, Bool, true, false, ◌||◌, List, [], ◌∷◌, arith, if◌then◌else◌}
 use Rattle.std.proofs.lemmas.Int.{ints}
 use Rattle.c_tree.specs.declared.index.Index.{Index}
 use Rattle.c_tree.specs.declared.index.Index.TheVariants.{Const}
 use Rattle.c_tree.specs.declared.program.Kind.TheVariants.{Position}
-use Rattle.c_meaning.specs.Names.{Name, Place, same_name, line}
+use Rattle.c_tree.specs.declared.statement.Stmt.{Stmt}
+use Rattle.c_tree.specs.declared.statement.Stmt.TheVariants.{Declare, Grow}
+use Rattle.c_meaning.specs.Names.{Name, same_name, line}
 use Rattle.c_meaning.specs.Weighed.{greatest}
-use Rattle.c_meaning.specs.Memory.{Memory, Env, Spot, Cells}
+use Rattle.c_meaning.specs.Memory.{Memory, Env}
 use Rattle.c_meaning.specs.Run.{declare, grow, grown, declared, with_extents}
 use Rattle.c_meaning.proofs.Spots.{pointwise_equal, name_self}
-use Rattle.sparse_marks.specs.Marks.{unmarked, Follows}
-use Rattle.sparse_marks.specs.Walks.{Walk, sum_below, met_before}
+use Rattle.sparse_marks.specs.Marks.{unmarked}
 use Rattle.sparse_marks.proofs.Marking.{none_yet}
 use Rattle.inspector_runs.specs.Rules.{Leads}
-use Rattle.inspector_runs.specs.Texts.{Arrays, Text, Loops, head_lines, marking_lines, kept_lines}
-use Rattle.inspector_runs.specs.Shown.{long, is_made, Agrees, Apart, Sizes, Shows, Left, Fits, cleared, SizesFit}
+use Rattle.inspector_runs.specs.Texts.{Arrays, Text, Loops, marking_lines, kept_lines}
+use Rattle.inspector_runs.specs.Shown.{long, is_made, Agrees, Apart, Shows, cleared, SizesFit}
 use Rattle.inspector_runs.specs.Laws.{sizes, LinesLeaveKeptValues, LinesOfNoRows}
 use Rattle.inspector_runs.proofs.Values.{value_const, grow_value}
 use Rattle.inspector_runs.proofs.Statements.{goes_declare, goes_grow, weaker}
@@ -22,35 +23,35 @@ use Rattle.inspector_runs.proofs.Memories.{other_way, apart_from, long_same, lon
 use Rattle.inspector_runs.proofs.Nests.{nest_goes}
 use Rattle.inspector_runs.proofs.Whole.{marking_goes, nest_of, left_by}
 
-new_cell : (a : Name) (es is : List ℤ) (m : Memory) → (declared a es m).index a is ≡ pos 0
+pub new_cell : (a : Name) (es is : List ℤ) (m : Memory) → (declared a es m).index a is ≡ pos 0
 new_cell a es is m = ap (λ b. if b then pos 0 else m.index a is) (name_self a)
 
-other_cell : (a b : Name) (es is : List ℤ) (m : Memory) → same_name a b ≡ false → (declared a es m).index b is ≡ m.index b is
+pub other_cell : (a b : Name) (es is : List ℤ) (m : Memory) → same_name a b ≡ false → (declared a es m).index b is ≡ m.index b is
 other_cell a b es is m h = ap (λ c. if c then pos 0 else m.index b is) h
 
-new_long : (a : Name) (es : List ℤ) (m : Memory) → (declared a es m).extents a ≡ es
+pub new_long : (a : Name) (es : List ℤ) (m : Memory) → (declared a es m).extents a ≡ es
 new_long a es m = ap (λ b. if b then es else m.extents a) (name_self a)
 
-other_long : (a b : Name) (es : List ℤ) (m : Memory) → same_name a b ≡ false → (declared a es m).extents b ≡ m.extents b
+pub other_long : (a b : Name) (es : List ℤ) (m : Memory) → same_name a b ≡ false → (declared a es m).extents b ≡ m.extents b
 other_long a b es m h = ap (λ c. if c then es else m.extents b) h
 
 -- the memories behind the seven lines
-abbrev empty : Name → Memory → Memory
+abbrev pub empty : Name → Memory → Memory
 empty a m = declared a (long (pos 0)) m
 
-abbrev made_arrays : Arrays → Memory → Memory
+abbrev pub made_arrays : Arrays → Memory → Memory
 made_arrays b m = empty b.mark (empty b.num (empty b.val (empty b.ptr m)))
 
-abbrev longer : Name → ℕ → Memory → Memory
+abbrev pub longer : Name → ℕ → Memory → Memory
 longer a n m = with_extents a (grown (pos n) (m.extents a)) m
 
-abbrev with_starts : Arrays → ℕ → Memory → Memory
+abbrev pub with_starts : Arrays → ℕ → Memory → Memory
 with_starts b s m = longer b.ptr s (made_arrays b m)
 
-abbrev with_number : Arrays → ℕ → Memory → Memory
+abbrev pub with_number : Arrays → ℕ → Memory → Memory
 with_number b s m = longer b.num 1 (with_starts b s m)
 
-abbrev with_marks : Arrays → ℕ → ℕ → Memory → Memory
+abbrev pub with_marks : Arrays → ℕ → ℕ → Memory → Memory
 with_marks b s k m = longer b.mark k (with_number b s m)
 
 longer_other : (a b : Name) (n : ℕ) (m : Memory) → same_name a b ≡ false → (longer a n m).extents b ≡ m.extents b
@@ -126,7 +127,7 @@ grown_long a n m h = long_same a (grown (pos n) (m.extents a)) m ∙ ap (grown (
     zero_and n = grind (arith, ints)
 
 -- behind the head nothing is marked
-head_shows : (b : Arrays) (low : ℤ) (s k : ℕ) (m : Memory) → Apart b → Shows b (sizes low s k) (cleared b m) unmarked (with_marks b s k m)
+pub head_shows : (b : Arrays) (low : ℤ) (s k : ℕ) (m : Memory) → Apart b → Shows b (sizes low s k) (cleared b m) unmarked (with_marks b s k m)
 head_shows b low s k m d = record {
   mark = λ e. new_cell b.mark (long (pos 0)) (line e) (empty b.num (empty b.val (empty b.ptr m)));
   ptr = λ g.
@@ -149,23 +150,33 @@ head_shows b low s k m d = record {
 from_none : (n g : ℕ) → n ≤ g → 0 + n ≤ g
 from_none n g h = omega (arith, h)
 
--- the head, and what follows it
-head_goes : (b : Arrays) (x : Text) (l : Loops) (starts marks : Index) (c : Env) (m : Memory) (s k t : ℕ) (Q : Memory → Type 0) → Apart b → SizesFit b c (cleared b m) starts marks s k
-    → Leads (marking_lines b x l) c [] 7 (with_marks b s k m) t Q → Leads (kept_lines b x l starts marks) c [] 0 m t Q
-head_goes b x l starts marks c m s k t Q d f g =
-    goes_declare b.ptr Position [] _ c [] 0 m t Q (declare b.ptr Position (long (pos 0))) refl
-    (goes_declare b.val Position [] _ c [] 1 (empty b.ptr m) t Q (declare b.val Position (long (pos 0))) refl
-    (goes_declare b.num Position [] _ c [] 2 (empty b.val (empty b.ptr m)) t Q (declare b.num Position (long (pos 0))) refl
-    (goes_declare b.mark Position [] _ c [] 3 (empty b.num (empty b.val (empty b.ptr m))) t Q (declare b.mark Position (long (pos 0))) refl
-    (goes_grow b.ptr starts _ c [] 4 (made_arrays b m) t Q (grow b.ptr (pos s))
+-- the growths behind the declarations
+pub growths_go : (b : Arrays) (starts marks : Index) (ts : List Stmt) (c : Env) (m : Memory) (n s k t : ℕ) (Q : Memory → Type 0) → Apart b → SizesFit b c (cleared b m) starts marks s k
+    → Leads ts c [] (((n + 1) + 1) + 1) (with_marks b s k m) t Q → Leads (Grow b.ptr starts ∷ Grow b.num (Const (pos 1)) ∷ Grow b.mark marks ∷ ts) c [] n (made_arrays b m) t Q
+growths_go b starts marks ts c m n s k t Q d f g =
+    goes_grow b.ptr starts _ c [] n (made_arrays b m) t Q (grow b.ptr (pos s))
     (grow_value b.ptr starts c (made_arrays b m) 0 s (f.starts_are (made_arrays b m) (made_agrees b m)) (ptr_empty b m d) (from_none s greatest f.starts_small))
-    (goes_grow b.num (Const (pos 1)) _ c [] 5 (with_starts b s m) t Q (grow b.num (pos 1))
+    (goes_grow b.num (Const (pos 1)) _ c [] (n + 1) (with_starts b s m) t Q (grow b.num (pos 1))
     (grow_value b.num (Const (pos 1)) c (with_starts b s m) 0 1 (value_const (pos 1) _ (omega arith)) (longer_other b.ptr b.num s (made_arrays b m) d.ptr_num ∙ num_empty b m d) (omega arith))
-    (goes_grow b.mark marks _ c [] 6 (with_number b s m) t Q (grow b.mark (pos k))
+    (goes_grow b.mark marks ts c [] ((n + 1) + 1) (with_number b s m) t Q (grow b.mark (pos k))
     (grow_value b.mark marks c (with_number b s m) 0 k
     (f.marks_are (with_number b s m) (longer_agrees b (cleared b m) (with_starts b s m) b.num 1 (made_num b) (longer_agrees b (cleared b m) (made_arrays b m) b.ptr s (made_ptr b) (made_agrees b m))))
     (longer_other b.num b.mark 1 (with_starts b s m) d.num_mark ∙ longer_other b.ptr b.mark s (made_arrays b m) d.ptr_mark ∙ mark_empty b m) (from_none k greatest f.marks_small))
-    g))))))
+    g))
+
+-- the declarations, and what follows them
+pub declares_go : (b : Arrays) (ts : List Stmt) (c : Env) (m : Memory) (t : ℕ) (Q : Memory → Type 0)
+    → Leads ts c [] 4 (made_arrays b m) t Q → Leads (Declare b.ptr Position [] ∷ Declare b.val Position [] ∷ Declare b.num Position [] ∷ Declare b.mark Position [] ∷ ts) c [] 0 m t Q
+declares_go b ts c m t Q g =
+    goes_declare b.ptr Position [] _ c [] 0 m t Q (declare b.ptr Position (long (pos 0))) refl
+    (goes_declare b.val Position [] _ c [] 1 (empty b.ptr m) t Q (declare b.val Position (long (pos 0))) refl
+    (goes_declare b.num Position [] _ c [] 2 (empty b.val (empty b.ptr m)) t Q (declare b.num Position (long (pos 0))) refl
+    (goes_declare b.mark Position [] ts c [] 3 (empty b.num (empty b.val (empty b.ptr m))) t Q (declare b.mark Position (long (pos 0))) refl g)))
+
+-- the head, and what follows it
+head_goes : (b : Arrays) (x : Text) (l : Loops) (starts marks : Index) (c : Env) (m : Memory) (s k t : ℕ) (Q : Memory → Type 0) → Apart b → SizesFit b c (cleared b m) starts marks s k
+    → Leads (marking_lines b x l) c [] 7 (with_marks b s k m) t Q → Leads (kept_lines b x l starts marks) c [] 0 m t Q
+head_goes b x l starts marks c m s k t Q d f g = declares_go b _ c m t Q (growths_go b starts marks (marking_lines b x l) c m 4 s k t Q d f g)
 
 pub lines_leave : LinesLeaveKeptValues
 lines_leave b x l starts marks c m low s k n first a f g =

@@ -1,8 +1,13 @@
 pub mod Goes
 pub mod Statements
 pub mod Values
+pub mod Targets
 pub mod Memories
+pub mod Spared
+pub mod Walked
 pub mod Marking
 pub mod Nests
 pub mod Whole
 pub mod Heads
+pub mod Beside
+pub mod Worked

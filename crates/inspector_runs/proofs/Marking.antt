@@ -1,21 +1,23 @@
 -- The lines of one entry, run.
-use Rattle.std.proofs.Common.{◌≡◌, refl, sym, ap, ◌∙◌, subst, ℕ, zero, suc, ◌+◌, ◌≤◌, ◌<◌, ◌^◌, ℤ, pos, ◌+ℤ◌, ◌-ℤ◌, ◌≤ℤ◌, ◌<ℤ◌, Bool, true, false, List, [], ◌∷◌, ◌++◌, length, map, Ok, arith, nat_le, nat_eq, if◌then◌else◌, length-append, unsigned_abs, int_le}
+use Rattle.std.proofs.Common.{◌≡◌, refl, sym, ap, ◌∙◌, subst, ℕ, suc, ◌+◌, ◌≤◌, ℤ, pos, ◌+ℤ◌, ◌≤ℤ◌, ◌<ℤ◌, Bool, true, false, List, [], ◌∷◌, ◌++◌, length, Ok, arith, nat_le, nat_eq, if◌then◌else◌, length-append, int_le}
 use Rattle.std.proofs.lemmas.Int.{ints}
-use Rattle.c_tree.specs.declared.index.Index.TheVariants.{Const, Var, At, Plus}
+use Rattle.c_tree.specs.declared.index.Index.TheVariants.{Const, At, Plus}
+use Rattle.c_tree.specs.declared.statement.Stmt.{Stmt}
+use Rattle.c_tree.specs.declared.statement.Stmt.TheVariants.{Put}
 use Rattle.c_meaning.specs.Names.{Name, Place, same_name, line}
 use Rattle.c_meaning.specs.Weighed.{greatest, plain}
-use Rattle.c_meaning.specs.Value.{Answer, ◌>>=◌, measure, value_of, holds, all_hold}
+use Rattle.c_meaning.specs.Value.{Answer, ◌>>=◌, measure, value_of, all_hold}
 use Rattle.c_meaning.specs.Memory.{Memory, Env, sight_of}
-use Rattle.c_meaning.specs.Run.{put_in, with_extents, grown, put, grow, do_deed}
+use Rattle.c_meaning.specs.Run.{put_in, with_extents, grown, put, grow, grow_step}
 use Rattle.c_meaning.proofs.Equations.{measure-Const}
-use Rattle.sparse_marks.specs.Kept.{same, nth}
+use Rattle.sparse_marks.specs.Kept.{same}
 use Rattle.sparse_marks.specs.Marks.{Marks, marked, see}
 use Rattle.inspector_runs.specs.Rules.{Leads}
 use Rattle.inspector_runs.specs.Texts.{Arrays, Text, cell, count, new_value, new_test, entry_lines}
-use Rattle.inspector_runs.specs.Shown.{long, is_made, Agrees, Apart, Sizes, Shows, Gives}
+use Rattle.inspector_runs.specs.Shown.{long, Agrees, Apart, Sizes, Shows, Gives}
 use Rattle.inspector_runs.proofs.Values.{inside_long, value_by, measure_read, value_read, value_const, value_plus, put_line, grow_value}
 use Rattle.inspector_runs.proofs.Statements.{goes_end, goes_put, goes_grow, goes_if}
-use Rattle.inspector_runs.proofs.Memories.{other_way, in_same, in_line, in_other, long_same, long_other, agrees_put, agrees_long, made_ptr, made_val, made_num, made_mark, nth-snoc, same_place, same_value}
+use Rattle.inspector_runs.proofs.Memories.{other_way, in_same, in_line, in_other, long_same, long_other, agrees_put, agrees_long, made_val, made_num, made_mark, nth-snoc, same_place, same_value}
 
 -- what is known in the turn of an entry with value w, at d above the lowest value, in group g
 pub record Turn (b : Arrays) (x : Text) (c : Env) (base : Memory) (z : Sizes) (w d : ℤ) (g : ℕ) (s : Marks) : Type 0 where
@@ -30,7 +32,7 @@ pub record Turn (b : Arrays) (x : Text) (c : Env) (base : Memory) (z : Sizes) (w
   pub small : length s.val + 2 ≤ greatest
 
 -- the test of an entry
-test_is : (b : Arrays) (x : Text) (c : Env) (base : Memory) (z : Sizes) (w d : ℤ) (g : ℕ) (s : Marks) (m : Memory) → Turn b x c base z w d g s → Shows b z base s m
+pub test_is : (b : Arrays) (x : Text) (c : Env) (base : Memory) (z : Sizes) (w d : ℤ) (g : ℕ) (s : Marks) (m : Memory) → Turn b x c base z w d g s → Shows b z base s m
     → all_hold (new_test b x) (sight_of c m) ≡ Ok (nat_le (s.mark w) (s.ptr g))
 test_is b x c base z w d g s m t sh =
     let k : length s.val ≤ greatest = omega (arith, t.small) in
@@ -72,7 +74,7 @@ one_more : (n : ℕ) → pos n +ℤ pos 1 ≡ pos (suc n)
 one_more n = grind (arith, ints)
 
 -- the memories of the four statements
-abbrev grown_val : Arrays → ℕ → Memory → Memory
+abbrev pub grown_val : Arrays → ℕ → Memory → Memory
 grown_val b n m = with_extents b.val (grown (pos 1) (m.extents b.val)) m
 
 abbrev valued : Arrays → ℕ → ℤ → Memory → Memory
@@ -131,10 +133,13 @@ appended b x c base z w d g s m t sh = record {
     more : pos (length s.val) +ℤ pos 1 ≡ pos (length (s.val ++ w ∷ []))
     more = let e : length (s.val ++ w ∷ []) ≡ length s.val + 1 = length-append s.val (w ∷ []) in grind (arith, ints, e)
 
--- the four statements at a new value
-new_goes : (b : Arrays) (x : Text) (c : Env) (at : Place) (k : ℕ) (base : Memory) (z : Sizes) (w d : ℤ) (g : ℕ) (s : Marks) (m : Memory) → Turn b x c base z w d g s → Shows b z base s m
-    → Leads (new_value b x) c at k m 0 (Shows b z base (record { mark = marked s.mark w (suc (length s.val)); ptr = s.ptr; val = s.val ++ w ∷ [] }))
-new_goes b x c at k base z w d g s m t sh =
+-- the statements at a new value, behind the growth
+abbrev pub noted : Arrays → Text → List Stmt
+noted b x = Put (cell b.val (count b)) x.value ∷ Put (cell b.num (Const (pos 0))) (Plus (count b) (Const (pos 1))) ∷ Put (cell b.mark x.from_low) (count b) ∷ []
+
+pub noted_goes : (b : Arrays) (x : Text) (c : Env) (at : Place) (k : ℕ) (base : Memory) (z : Sizes) (w d : ℤ) (g : ℕ) (s : Marks) (m : Memory) → Turn b x c base z w d g s → Shows b z base s m
+    → Leads (noted b x) c at k (grown_val b (length s.val) m) 0 (Shows b z base (record { mark = marked s.mark w (suc (length s.val)); ptr = s.ptr; val = s.val ++ w ∷ [] }))
+noted_goes b x c at k base z w d g s m t sh =
     let n : ℕ = length s.val in
     let a1 : Agrees b base (grown_val b n m) = agrees_long b base m b.val _ (made_val b) sh.others in
     let a2 : Agrees b base (valued b n w m) = agrees_put b base _ b.val (line (pos n)) w (made_val b) a1 in
@@ -143,8 +148,7 @@ new_goes b x c at k base z w d g s m t sh =
     let small : n ≤ greatest = omega (arith, t.small) in
     let e0 : m.extents b.num ≡ long (pos 1) = sh.num_long in
     let e1 : (grown_val b n m).extents b.num ≡ long (pos 1) = long_other b.val b.num _ m dn.val_num ∙ e0 in
-    goes_grow b.val (Const (pos 1)) _ c at k m 0 _ (grow b.val (pos 1)) (grow_value b.val (Const (pos 1)) c m n 1 (value_const (pos 1) _ (omega arith)) sh.val_long (omega (arith, t.small)))
-    (goes_put (cell b.val (count b)) x.value _ c at _ (grown_val b n m) 0 _ (put b.val (line (pos n)) w)
+    goes_put (cell b.val (count b)) x.value _ c at k (grown_val b n m) 0 _ (put b.val (line (pos n)) w)
     (put_line b.val (count b) x.value c (grown_val b n m) (pos n) w (t.gives.value _ a1) (value_by (count b) _ (plain (pos n)) (count_is b c (grown_val b n m) n e1 sh.num) small)
     (inside_long _ (pos n) (pos n +ℤ pos 1) (long_same b.val _ m ∙ ap (grown (pos 1)) sh.val_long) (from_zero n) (below_next n)))
     (goes_put (cell b.num (Const (pos 0))) (Plus (count b) (Const (pos 1))) _ c at _ (valued b n w m) 0 _ (put b.num (line (pos 0)) (pos n +ℤ pos 1))
@@ -154,7 +158,16 @@ new_goes b x c at k base z w d g s m t sh =
     (goes_put (cell b.mark x.from_low) (count b) _ c at _ (counted b n w m) 0 _ (put b.mark (line d) (pos (suc n)))
     (put_line b.mark x.from_low (count b) c (counted b n w m) d (pos (suc n)) (value_by (count b) _ (plain (pos (suc n))) (count_is b c (counted b n w m) (suc n) e1 (in_same b.num (line (pos 0)) (pos n +ℤ pos 1) (valued b n w m) ∙ one_more n)) (omega (arith, t.small)))
     (t.gives.from_low _ a3) (inside_long _ d z.marks (long_other b.val b.mark _ m dn.val_mark ∙ sh.mark_long) t.from t.to))
-    (goes_end c at _ (remarked b n w d m) _ (appended b x c base z w d g s m t sh)))))
+    (goes_end c at _ (remarked b n w d m) _ (appended b x c base z w d g s m t sh))))
+
+-- a step of growth within the limits
+pub grows_val : (b : Arrays) (c : Env) (m : Memory) (n : ℕ) → m.extents b.val ≡ long (pos n) → n + 2 ≤ greatest → grow_step b.val (Const (pos 1)) c m ≡ Ok (grow b.val (pos 1))
+grows_val b c m n h k = grow_value b.val (Const (pos 1)) c m n 1 (value_const (pos 1) _ (omega arith)) h (omega (arith, k))
+
+new_goes : (b : Arrays) (x : Text) (c : Env) (at : Place) (k : ℕ) (base : Memory) (z : Sizes) (w d : ℤ) (g : ℕ) (s : Marks) (m : Memory) → Turn b x c base z w d g s → Shows b z base s m
+    → Leads (new_value b x) c at k m 0 (Shows b z base (record { mark = marked s.mark w (suc (length s.val)); ptr = s.ptr; val = s.val ++ w ∷ [] }))
+new_goes b x c at k base z w d g s m t sh =
+    goes_grow b.val (Const (pos 1)) _ c at k m 0 _ (grow b.val (pos 1)) (grows_val b c m (length s.val) sh.val_long t.small) (noted_goes b x c at (k + 1) base z w d g s m t sh)
 
 -- an entry
 pub entry_goes : (b : Arrays) (x : Text) (c : Env) (at : Place) (k : ℕ) (base : Memory) (z : Sizes) (w d : ℤ) (g : ℕ) (s : Marks) (m : Memory) → Turn b x c base z w d g s → Shows b z base s m

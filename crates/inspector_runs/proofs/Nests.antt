@@ -1,28 +1,29 @@
 -- The loops over the rows and over the entries of a row, run.
-use Rattle.std.proofs.Common.{◌≡◌, refl, sym, ap, ◌∙◌, subst, ℕ, zero, suc, ◌+◌, ◌≤◌, ◌<◌, ℤ, pos, ◌+ℤ◌, ◌-ℤ◌, ◌≤ℤ◌, ◌<ℤ◌, Bool, true, false, List, [], ◌∷◌, ◌++◌, length, map, Ok, arith, nat_le, nat_eq, if◌then◌else◌}
+use Rattle.std.proofs.Common.{◌≡◌, refl, ap, ◌∙◌, ℕ, suc, ◌+◌, ◌≤◌, ◌<◌, ℤ, pos, ◌+ℤ◌, ◌-ℤ◌, ◌≤ℤ◌, ◌<ℤ◌, Bool, true, false, List, [], ◌∷◌, length, Ok, arith, nat_eq, if◌then◌else◌}
 use Rattle.std.proofs.lemmas.Int.{ints}
 use Rattle.c_tree.specs.declared.index.Index.TheVariants.{Const, Var, At, Plus}
-use Rattle.c_meaning.specs.Names.{Name, Place, child, line}
+use Rattle.c_tree.specs.declared.statement.Stmt.TheVariants.{Put}
+use Rattle.c_meaning.specs.Names.{Place, line}
 use Rattle.c_meaning.specs.Weighed.{greatest, plain}
 use Rattle.c_meaning.specs.Value.{value_of}
-use Rattle.c_meaning.specs.Memory.{Memory, Env, sight_of, bound}
+use Rattle.c_meaning.specs.Memory.{Memory, Env, sight_of}
 use Rattle.c_meaning.specs.Run.{put_in, put}
-use Rattle.sparse_marks.specs.Marks.{Marks, unmarked, pointed, see, close}
-use Rattle.sparse_marks.specs.Walks.{seeing, rows_seen}
+use Rattle.sparse_marks.specs.Marks.{Marks, unmarked, close}
+use Rattle.sparse_marks.specs.Walks.{seeing, rows_seen, sum_below}
 use Rattle.inspector_runs.specs.Rules.{Leads}
-use Rattle.inspector_runs.specs.Texts.{Arrays, Text, Loops, cell, count, entry_lines, row_lines, marking_lines}
-use Rattle.inspector_runs.specs.Shown.{long, Agrees, Apart, Sizes, Shows, row_env, turn_env}
-use Rattle.inspector_runs.proofs.Values.{inside_long, value_by, value_const, put_line}
-use Rattle.inspector_runs.proofs.Goes.{in_all}
-use Rattle.inspector_runs.proofs.Statements.{goes_end, goes_put, goes_count}
-use Rattle.inspector_runs.proofs.Memories.{other_way, in_line, in_other, agrees_put, made_ptr, same_place}
+use Rattle.inspector_runs.specs.Texts.{Arrays, Text, Loops, cell, count, entry_lines, marking_lines}
+use Rattle.inspector_runs.specs.Shown.{Agrees, Apart, Sizes, Shows, row_env, turn_env}
+use Rattle.inspector_runs.proofs.Values.{inside_long, value_by, put_line}
+use Rattle.inspector_runs.proofs.Walked.{Turns, rows_go}
+use Rattle.inspector_runs.proofs.Statements.{goes_end, goes_put}
+use Rattle.inspector_runs.proofs.Memories.{in_line, in_other, agrees_put, made_ptr, same_place}
 use Rattle.inspector_runs.proofs.Marking.{Turn, entry_goes, count_is}
 
 from_zero : (n : ℕ) → pos 0 ≤ℤ pos n
 from_zero n = grind (arith, ints)
 
 -- the end of a row
-closed : (b : Arrays) (base : Memory) (z : Sizes) (g : ℕ) (s : Marks) (m : Memory) → Apart b → Shows b z base s m
+pub closed : (b : Arrays) (base : Memory) (z : Sizes) (g : ℕ) (s : Marks) (m : Memory) → Apart b → Shows b z base s m
     → Shows b z base (close g s) (put_in b.ptr (line (pos (suc g))) (pos (length s.val)) m)
 closed b base z g s m dn sh = record {
   mark = λ d. in_other b.ptr b.mark at (line d) n m dn.ptr_mark ∙ sh.mark d;
@@ -60,32 +61,28 @@ pub record Nest (b : Arrays) (x : Text) (l : Loops) (c : Env) (base : Memory) (z
   pub turn : (i j : ℕ) → i < rows → j < count_of i
       → Turn b x (turn_env l c i (first i) j) base z (value i j) (value i j -ℤ z.low) (group i) (seeing (group i) (value i) (rows_seen group count_of value i) j)
 
-row_goes : (b : Arrays) (x : Text) (l : Loops) (c : Env) (base : Memory) (z : Sizes) (rows : ℕ) (first group count_of : ℕ → ℕ) (value : ℕ → ℕ → ℤ)
+nest_turns : (b : Arrays) (x : Text) (l : Loops) (c : Env) (base : Memory) (z : Sizes) (rows : ℕ) (first group count_of : ℕ → ℕ) (value : ℕ → ℕ → ℤ)
     → Nest b x l c base z rows first group count_of value
-    → (at : Place) (n i : ℕ) (m : Memory) → i < rows → Shows b z base (rows_seen group count_of value i) m
-    → Leads (row_lines b x l) (row_env l c i) at n m (in_all (count_of i) (λ j. 0) + 0) (Shows b z base (rows_seen group count_of value (suc i)))
-row_goes b x l c base z rows first group count_of value y at n i m r sh =
-    goes_count l.entry _ _ (entry_lines b x) _ (row_env l c i) at n m 0 _ (pos (first i)) (count_of i) (λ j. 0) (λ j m. Shows b z base (seeing (group i) (value i) (rows_seen group count_of value i) j) m)
-    (y.from i m r sh.others) (y.to i m r sh.others) sh
-    (λ j m' k sh'. entry_goes b x _ _ 0 base z (value i j) (value i j -ℤ z.low) (group i) _ m' (y.turn i j r k) sh')
-    (λ m' sh'.
-    let s : Marks = seeing (group i) (value i) (rows_seen group count_of value i) (count_of i) in
-    goes_put (cell b.ptr x.next_group) (count b) [] (row_env l c i) at (n + 1) m' 0 _ (put b.ptr (line (pos (suc (group i)))) (pos (length s.val)))
-    (put_line b.ptr x.next_group (count b) (row_env l c i) m' (pos (suc (group i))) (pos (length s.val))
-    (value_by (count b) _ (plain (pos (length s.val))) (count_is b (row_env l c i) m' (length s.val) sh'.num_long sh'.num) (y.small i r))
-    (y.next i m' r sh'.others) (inside_long _ (pos (suc (group i))) z.starts sh'.ptr_long (from_zero (suc (group i))) (y.next_in i r)))
-    (goes_end (row_env l c i) at ((n + 1) + 1) _ _ (closed b base z (group i) s m' y.apart sh')))
+    → Turns l c rows first count_of (entry_lines b x) (Put (cell b.ptr x.next_group) (count b) ∷ []) (λ i j. Shows b z base (seeing (group i) (value i) (rows_seen group count_of value i) j))
+nest_turns b x l c base z rows first group count_of value y = record {
+  rows_are = y.rows_are;
+  from = λ i m r sh. y.from i m r sh.others;
+  to = λ i m r sh. y.to i m r sh.others;
+  turn = λ i j at m r k sh. entry_goes b x _ at 0 base z (value i j) (value i j -ℤ z.low) (group i) _ m (y.turn i j r k) sh;
+  row_end = λ i at m r sh.
+      let s : Marks = seeing (group i) (value i) (rows_seen group count_of value i) (count_of i) in
+      goes_put (cell b.ptr x.next_group) (count b) [] (row_env l c i) at 1 m 0 _ (put b.ptr (line (pos (suc (group i)))) (pos (length s.val)))
+      (put_line b.ptr x.next_group (count b) (row_env l c i) m (pos (suc (group i))) (pos (length s.val))
+      (value_by (count b) _ (plain (pos (length s.val))) (count_is b (row_env l c i) m (length s.val) sh.num_long sh.num) (y.small i r))
+      (y.next i m r sh.others) (inside_long _ (pos (suc (group i))) z.starts sh.ptr_long (from_zero (suc (group i))) (y.next_in i r)))
+      (goes_end (row_env l c i) at _ _ _ (closed b base z (group i) s m y.apart sh));
+}
 
 -- the whole nest leaves the marks of all rows
 pub nest_goes : (b : Arrays) (x : Text) (l : Loops) (c : Env) (base : Memory) (z : Sizes) (rows : ℕ) (first group count_of : ℕ → ℕ) (value : ℕ → ℕ → ℤ)
     → Nest b x l c base z rows first group count_of value
     → (at : Place) (n : ℕ) (m : Memory) → Shows b z base unmarked m
-    → Leads (marking_lines b x l) c at n m (in_all rows (λ i. in_all (count_of i) (λ j. 0) + 0) + 0) (Shows b z base (rows_seen group count_of value rows))
+    → Leads (marking_lines b x l) c at n m (rows + sum_below count_of rows) (Shows b z base (rows_seen group count_of value rows))
 nest_goes b x l c base z rows first group count_of value y at n m sh =
-    goes_count l.row _ _ (row_lines b x l) [] c at n m 0 _ (pos 0) rows (λ i. in_all (count_of i) (λ j. 0) + 0) (λ i m. Shows b z base (rows_seen group count_of value i) m)
-    (value_const (pos 0) _ (omega arith)) (y.rows_are m ∙ ap Ok (zero_and rows)) sh
-    (λ i m' r sh'. row_goes b x l c base z rows first group count_of value y _ 0 i m' r sh')
-    (λ m' sh'. goes_end c at (n + 1) m' _ sh')
-  where
-    zero_and : (n : ℕ) → pos n ≡ pos 0 +ℤ pos n
-    zero_and n = grind (arith, ints)
+    rows_go l c rows first count_of (entry_lines b x) (Put (cell b.ptr x.next_group) (count b) ∷ []) (λ i j. Shows b z base (seeing (group i) (value i) (rows_seen group count_of value i) j))
+    (nest_turns b x l c base z rows first group count_of value y) at n m sh

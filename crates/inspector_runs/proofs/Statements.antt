@@ -1,5 +1,5 @@
 -- One statement after another: what has to be shown at each.
-use Rattle.std.proofs.Common.{◌≡◌, refl, sym, ap, ◌∙◌, subst, ℕ, suc, ◌+◌, ◌<◌, ℤ, pos, ◌+ℤ◌, ◌-ℤ◌, ◌≤ℤ◌, ◌<ℤ◌, Bool, true, false, List, [], ◌∷◌, ◌++◌, map, Ok, arith, if◌then◌else◌}
+use Rattle.std.proofs.Common.{◌≡◌, refl, sym, ◌∙◌, subst, ℕ, suc, ◌+◌, ◌<◌, ℤ, pos, ◌+ℤ◌, Bool, true, false, List, [], ◌∷◌, ◌++◌, map, Ok, arith, if◌then◌else◌}
 use Rattle.c_meaning.specs.Names.{Name}
 use Rattle.c_tree.specs.declared.index.Cell.{Cell}
 use Rattle.c_tree.specs.declared.index.Index.{Index}
@@ -14,7 +14,7 @@ use Rattle.c_meaning.specs.Names.{Place, child}
 use Rattle.c_meaning.specs.Memory.{Memory, Env, sight_of, bound}
 use Rattle.c_meaning.specs.Listing.{assigned, scene_of}
 use Rattle.c_meaning.specs.Ground.{Step}
-use Rattle.c_meaning.specs.Run.{Deed, assign, do_deed, Run, nothing, ◌⨾◌, given, performs, turn, turns, Part, part, widths, sequence, put_step, grow_step, declare_step, stmt_layer}
+use Rattle.c_meaning.specs.Run.{Deed, assign, do_deed, Run, nothing, ◌⨾◌, performs, Part, part, widths, put_step, grow_step, declare_step}
 use Rattle.c_meaning.proofs.Parts.{ran-For, ran-If, ran-Assign, ran-Put, ran-Declare, ran-Grow}
 use Rattle.inspector_runs.specs.Rules.{Goes, Leads, run_at}
 use Rattle.inspector_runs.proofs.Goes.{goes_nothing, goes_then, goes_given, goes_performs, count_goes, in_all}

@@ -1,5 +1,5 @@
 -- Values of reads, sums and constants in a memory, and the steps that they make.
-use Rattle.std.proofs.Common.{◌≡◌, refl, sym, ap, ◌∙◌, subst, ℕ, ◌+◌, ◌*◌, ◌≤◌, ◌^◌, ℤ, pos, ◌+ℤ◌, ◌-ℤ◌, ◌*ℤ◌, ◌≤ℤ◌, ◌<ℤ◌, Bool, true, false, ◌&&◌, List, [], ◌∷◌, Some, None, Ok, Err, arith, nat_le, int_le, int_lt, unsigned_abs, if◌then◌else◌}
+use Rattle.std.proofs.Common.{◌≡◌, ap, ◌∙◌, ℕ, ◌+◌, ◌*◌, ◌≤◌, ℤ, pos, ◌+ℤ◌, ◌≤ℤ◌, ◌<ℤ◌, true, ◌&&◌, List, Some, None, Ok, Err, arith, nat_le, int_le, unsigned_abs, if◌then◌else◌}
 use Rattle.std.proofs.lemmas.Int.{ints}
 use Rattle.std.proofs.Math.Nat.{mul-one}
 use Rattle.c_tree.specs.declared.index.Index.{Index}
@@ -7,7 +7,7 @@ use Rattle.c_tree.specs.declared.index.Index.TheVariants.{Const, Var, At, Plus, 
 use Rattle.c_meaning.specs.declared.fault.EvalFault.TheVariants.{Outside, Range}
 use Rattle.c_meaning.specs.Names.{Name, line}
 use Rattle.c_meaning.specs.Weighed.{Weighed, greatest, plain, sum_of, difference_of, floor_of}
-use Rattle.c_meaning.specs.Value.{Answer, ◌>>=◌, Sight, is_inside, measure, value_of, judged, held, cell_seen, plain_answer, three_answers, on_one, on_two}
+use Rattle.c_meaning.specs.Value.{◌>>=◌, Sight, is_inside, measure, value_of, judged, held, cell_seen, plain_answer, three_answers, on_one, on_two}
 use Rattle.c_meaning.specs.Memory.{Memory, Env, sight_of}
 use Rattle.c_meaning.specs.Run.{put, grow, grown, target_of, put_step, grow_step, is_natural, is_small, is_within}
 use Rattle.c_meaning.proofs.Equations.{measure-Const, measure-Var, measure-At, measure-Plus, measure-Minus, measure-Floor, cell_value_is, subscripts-One}

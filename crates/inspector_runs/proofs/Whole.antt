@@ -1,38 +1,19 @@
 -- The marking lines on a matrix: no fault, the turns, and the kept values.
-use Rattle.std.proofs.Common.{◌≡◌, refl, sym, ap, ◌∙◌, subst, ℕ, zero, suc, ◌+◌, ◌-◌, ◌≤◌, ◌<◌, ℤ, pos, ◌+ℤ◌, ◌-ℤ◌, ◌≤ℤ◌, ◌<ℤ◌, List, [], ◌∷◌, ◌++◌, length, Ok, arith}
+use Rattle.std.proofs.Common.{◌≡◌, refl, ap, ◌∙◌, ℕ, suc, ◌+◌, ◌≤◌, ℤ, pos, ◌+ℤ◌, ◌-ℤ◌, ◌<ℤ◌, List, [], ◌++◌, length, arith}
 use Rattle.std.proofs.lemmas.Int.{ints}
 use Rattle.std.proofs.lemmas.List.{append-nil}
-use Rattle.c_meaning.specs.Names.{Name, Place, line}
-use Rattle.c_meaning.specs.Weighed.{greatest}
+use Rattle.c_meaning.specs.Names.{Place}
 use Rattle.c_meaning.specs.Memory.{Memory, Env}
-use Rattle.sparse_marks.specs.Kept.{Placed, kept, kept_before, start, nth}
+use Rattle.sparse_marks.specs.Kept.{Placed, kept, kept_before, nth}
 use Rattle.sparse_marks.specs.Marks.{Marks, unmarked, Follows}
-use Rattle.sparse_marks.specs.Walks.{Walk, row_met, met_before, rows_seen, marks_in, marks_of, Rising, sum_below}
+use Rattle.sparse_marks.specs.Walks.{Walk, row_met, met_before, marks_in, marks_of, sum_below}
 use Rattle.sparse_marks.proofs.Walking.{within, at_end, start_bound, values_bound}
 use Rattle.inspector_runs.specs.Rules.{Leads}
 use Rattle.inspector_runs.specs.Texts.{Arrays, Text, Loops, marking_lines}
-use Rattle.inspector_runs.specs.Shown.{long, Agrees, Sizes, Shows, Left, Fits}
+use Rattle.inspector_runs.specs.Shown.{long, Sizes, Shows, Left, Fits}
 use Rattle.inspector_runs.specs.Laws.{MarkingLeavesKeptValues}
-use Rattle.inspector_runs.proofs.Goes.{in_all}
 use Rattle.inspector_runs.proofs.Statements.{weaker}
-use Rattle.inspector_runs.proofs.Marking.{Turn}
 use Rattle.inspector_runs.proofs.Nests.{Nest, nest_goes}
-
-inner_turns : (k : ℕ) → in_all k (λ j. 0) ≡ k
-inner_turns zero = refl
-inner_turns (suc k) = ap (λ n. 1 + n) (inner_turns k) ∙ (let e : 1 + k ≡ suc k = omega arith in e)
-
-sum_first : (f : ℕ → ℕ) (n : ℕ) → sum_below f (suc n) ≡ f 0 + sum_below (λ i. f (suc i)) n
-sum_first f zero = omega arith
-sum_first f (suc n) = let h : sum_below f (suc n) ≡ f 0 + sum_below (λ i. f (suc i)) n = sum_first f n in omega (arith, h)
-
-all_turns : (n : ℕ) (f : ℕ → ℕ) → in_all n (λ i. in_all (f i) (λ j. 0) + 0) ≡ n + sum_below f n
-all_turns zero f = refl
-all_turns (suc n) f =
-    let h : in_all n (λ i. in_all (f (suc i)) (λ j. 0) + 0) ≡ n + sum_below (λ i. f (suc i)) n = all_turns n (λ i. f (suc i)) in
-    let k : in_all (f 0) (λ j. 0) ≡ f 0 = inner_turns (f 0) in
-    let l : sum_below f (suc n) ≡ f 0 + sum_below (λ i. f (suc i)) n = sum_first f n in
-    omega (arith, h, k, l)
 
 below_less : (v w : ℤ) → (v -ℤ w) +ℤ w ≡ v
 below_less v w = omega (arith, ints)
@@ -84,7 +65,7 @@ pub marking_goes : (b : Arrays) (x : Text) (l : Loops) (c : Env) (base : Memory)
     → Leads (marking_lines b x l) c at k m (suc n + sum_below a.count (suc n)) (Left b base (met_before a (suc n)) (suc (a.group n)))
 marking_goes b x l c base z n first a f at k m sh =
     weaker _ c at k m _ _ (Shows b z base (marks_of a (suc n))) _
-    (let e : in_all (suc n) (λ i. in_all (a.count i) (λ j. 0) + 0) ≡ suc n + sum_below a.count (suc n) = all_turns (suc n) a.count in omega (arith, e))
+    refl
     (λ m' sh'. left_by b base z (met_before a (suc n)) (suc (a.group n)) (marks_of a (suc n)) m' (at_end a f.rising n) ((within a f.rising n (a.count n)).later (suc (a.group n)) (omega arith)) sh')
     (nest_goes b x l c base z (suc n) first a.group a.count a.value (nest_of b x l c base z (suc n) first a f) at k m sh)
 

@@ -1,11 +1,11 @@
 -- What the made arrays show.
-use Rattle.std.specs.Prelude.{◌≡◌, ℕ, suc, ◌+◌, ◌≤◌, ◌<◌, ℤ, pos, ◌+ℤ◌, ◌-ℤ◌, ◌≤ℤ◌, ◌<ℤ◌, Bool, true, false, ◌||◌, List, [], ◌∷◌, length, Ok, if◌then◌else◌}
+use Rattle.std.specs.Prelude.{◌≡◌, ℕ, suc, ◌+◌, ◌≤◌, ◌<◌, ℤ, pos, ◌+ℤ◌, ◌-ℤ◌, ◌≤ℤ◌, ◌<ℤ◌, Bool, false, ◌||◌, List, [], ◌∷◌, length, Ok, if◌then◌else◌}
 use Rattle.c_tree.specs.declared.index.Index.{Index}
 use Rattle.c_tree.specs.declared.index.Index.TheVariants.{Const, Var, At, Plus}
 use Rattle.c_meaning.specs.Names.{Name, same_name, line}
 use Rattle.c_meaning.specs.Weighed.{greatest}
 use Rattle.c_meaning.specs.Value.{value_of}
-use Rattle.c_meaning.specs.Memory.{Memory, Env, sight_of, bound}
+use Rattle.c_meaning.specs.Memory.{Memory, Spot, Env, sight_of, bound}
 use Rattle.sparse_marks.specs.Kept.{Placed, kept_before, start, nth}
 use Rattle.sparse_marks.specs.Marks.{Marks}
 use Rattle.sparse_marks.specs.Walks.{Walk, Rising, sum_below}
@@ -23,6 +23,12 @@ pub record Agrees (b : Arrays) (base m : Memory) : Type 0 where
   pub index : (a : Name) → is_made b a ≡ false → m.index a ≡ base.index a
   pub extents : (a : Name) → is_made b a ≡ false → m.extents a ≡ base.extents a
   pub cells : m.cells ≡ base.cells
+
+-- all but the arrays of some names is as it was
+pub record Spares (own : Name → Bool) (base m : Memory) : Type 0 where
+  pub index : (a : Name) → own a ≡ false → m.index a ≡ base.index a
+  pub extents : (a : Name) → own a ≡ false → m.extents a ≡ base.extents a
+  pub cells : (y : Spot) → own y.array ≡ false → m.cells y ≡ base.cells y
 
 -- no two of the made arrays have one name
 pub record Apart (b : Arrays) : Type 0 where
