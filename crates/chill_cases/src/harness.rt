@@ -30,6 +30,7 @@ pub struct Ended {
 
 /// The names of the files of a call.
 pub const FIRST: &str = "first";
+
 pub const SECOND: &str = "second";
 
 // The room of a sink.
