@@ -30,7 +30,6 @@ pub struct Ended {
 
 /// The names of the files of a call.
 pub const FIRST: &str = "first";
-
 pub const SECOND: &str = "second";
 
 // The room of a sink.

@@ -1,6 +1,7 @@
 // Texts that several cases share.
 use crate::harness::Pieces;
 
+
 /// The lines before every printed program.
 pub const PRELUDE: &str = "#include <stdint.h>
 #include <stdlib.h>
