@@ -40,12 +40,12 @@ const BROKEN: &[(&str, &str, u64, u8, &str)] = &[
 fn broken_files(rt: HostRuntime) -> Result<(), Fail> {
     let alloc = rt.alloc();
     for command in ["run", "trace"] {
-        for (source, data, failing, status, line) in BROKEN {
-            let fails = List::from_slice(alloc, &[*failing])?;
+        for &(source, data, failing, status, line) in BROKEN {
+            let fails = List::from_slice(alloc, &[failing])?;
             let files = two_files(alloc, source.as_bytes(), data.as_bytes(), fails)?;
             let out = narrow_sink(alloc, 4096, List::new(alloc))?;
             let ended = call(alloc, &[command, FIRST, SECOND], files, out)?;
-            assert_eq!(rt; ended.status, *status, "{command} {failing}");
+            assert_eq!(rt; ended.status, status, "{command} {failing}");
             assert!(rt; ended.out.bytes().is_empty(), "{command} {failing}");
             assert!(rt; ended.err.bytes() == line.as_bytes(), "{command} {failing}");
         }
@@ -59,8 +59,8 @@ type Call = (&'static [&'static str], &'static [Pieces; 2], usize);
 // A call whose write with that number fails.
 fn broken(alloc: Global, made: &Call, failing: u64) -> Result<Ended, Fail> {
     let (words, [first, second], most) = *made;
-    let first = joined(alloc, first)?;
-    let second = joined(alloc, second)?;
+    let first = joined(alloc, *first)?;
+    let second = joined(alloc, *second)?;
     let files = two_files(alloc, first.as_slice(), second.as_slice(), List::new(alloc))?;
     let fails = List::from_slice(alloc, &[failing])?;
     call(alloc, words, files, narrow_sink(alloc, most, fails)?)
@@ -80,7 +80,7 @@ fn hold_fronts(rt: &impl Abort, alloc: Global, made: &Call) -> Result<(), Fail> 
         }
         assert!(rt; text.starts_with(taken) && taken.len() < text.len());
         assert!(rt; taken.len() as u64 >= failing);
-        assert!(rt; ended.err.bytes() == b"chill: write fault\n");
+        assert!(rt; ended.err.bytes() == b"chill: write fault\n".as_slice());
     }
     Err(Fail::new("no end"))
 }

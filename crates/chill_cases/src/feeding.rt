@@ -65,7 +65,7 @@ fn refused_data(rt: HostRuntime) -> Result<(), Fail> {
     let alloc = rt.alloc();
     let source = joined(alloc, PRODUCT)?;
     let source = source.as_slice();
-    for (text, line) in FAULTS {
+    for &(text, line) in FAULTS {
         let line = format!(in alloc; "chill: data: {line}\n")?;
         let ended = call_on(alloc, "run", source, text)?;
         assert_eq!(rt; ended.status, 1, "status for {line}");

@@ -11,7 +11,7 @@ pub type Run = (Pieces, Pieces, Pieces, &'static str);
 
 /// Each run by that command ends so. The message has the place of the first that doesn't.
 pub fn hold_runs(rt: &impl Abort, alloc: Global, command: &str, runs: &[Run]) -> Result<(), Fail> {
-    for (at, (program, data, out, line)) in runs.iter().enumerate() {
+    for (at, &(program, data, out, line)) in runs.iter().enumerate() {
         let program = joined(alloc, program)?;
         let data = joined(alloc, data)?;
         let ended = call_on(alloc, command, program.as_slice(), data.as_slice())?;

@@ -104,12 +104,14 @@ fn hold_arrays(
     machine: &Machine,
     arrays: &[Left],
 ) -> Result<(), Fail> {
-    for (name, extents, cells) in arrays {
+    for &(name, extents, cells) in arrays {
         let named = Name::new(name.as_bytes()).ok_or("a name")?;
-        let grid = machine.array(&named).ok_or("an array")?;
-        assert!(rt; grid.extents() == *extents, "extents of {name}");
+        let Some(grid) = machine.array(&named) else {
+            return Err(Fail::new(name));
+        };
+        assert!(rt; grid.extents() == extents, "extents of {name}");
         let copy = copied(alloc, grid.cells())?;
-        assert!(rt; copy.as_slice() == *cells, "cells of {name}");
+        assert!(rt; copy.as_slice() == cells, "cells of {name}");
     }
     Ok(())
 }
