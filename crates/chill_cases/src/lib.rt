@@ -2,8 +2,36 @@
 #![tactic(auto)]
 
 #[cfg(test)]
+mod affine_texts;
+#[cfg(test)]
+mod expressions;
+#[cfg(test)]
 mod harness;
+#[cfg(test)]
+mod identities;
+#[cfg(test)]
+mod large;
+#[cfg(test)]
+mod made_texts;
+#[cfg(test)]
+mod outside;
+#[cfg(test)]
+mod plain_texts;
+#[cfg(test)]
+mod read_back;
+#[cfg(test)]
+mod refused_commands;
+#[cfg(test)]
+mod refused_names;
+#[cfg(test)]
+mod refused_recipes;
+#[cfg(test)]
+mod refused_sources;
+#[cfg(test)]
+mod refused_tokens;
+#[cfg(test)]
+mod sparse_texts;
 #[cfg(test)]
 mod texts;
 #[cfg(test)]
-mod writing;
+mod words;
