@@ -20,6 +20,14 @@ pub struct Case {
     pub err: &'static str,
 }
 
+/// A recipe or a source that is refused, and the line that says why.
+pub struct Refused {
+    pub name: &'static str,
+    pub recipe: &'static str,
+    pub source: Pieces,
+    pub line: &'static str,
+}
+
 /// How a call ended, and what it wrote.
 #[derive(Drop)]
 pub struct Ended {
@@ -30,6 +38,7 @@ pub struct Ended {
 
 /// The names of the files of a call.
 pub const FIRST: &str = "first";
+
 pub const SECOND: &str = "second";
 
 // The room of a sink.
@@ -63,17 +72,23 @@ pub fn two_files(
 }
 
 /// Calls the program with these words.
-pub fn call(
+pub fn call(alloc: Global, words: &[&str], files: MemFiles, out: MemSink) -> Result<Ended, Fail> {
+    let err = narrow_sink(alloc, ROOM, List::new(alloc))?;
+    call_into(alloc, words, files, out, err)
+}
+
+/// Calls the program with these words, and lets it write its line on `err`.
+pub fn call_into(
     alloc: Global,
     words: &[&str],
     mut files: MemFiles,
     mut out: MemSink,
+    mut err: MemSink,
 ) -> Result<Ended, Fail> {
     let mut owned = Vec::new(alloc);
     for word in words {
         owned.push(String::from_str(alloc, word)?)?;
     }
-    let mut err = narrow_sink(alloc, ROOM, List::new(alloc))?;
     let outcome = chill(alloc, owned.as_slice(), &mut files, &mut out, &mut err);
     Ok(Ended {
         status: status(&outcome),
@@ -100,6 +115,19 @@ pub fn hold(rt: &impl Abort, alloc: Global, cases: &[Case]) -> Result<(), Fail> 
         assert_eq!(rt; ended.status, case.status, "status of {name}");
         assert!(rt; ended.out.bytes() == out.as_slice(), "text of {name}");
         assert!(rt; ended.err.bytes() == case.err.as_bytes(), "line of {name}");
+    }
+    Ok(())
+}
+
+/// Each recipe or source is refused by its line, and nothing is written.
+pub fn refuse(rt: &impl Abort, alloc: Global, cases: &[Refused]) -> Result<(), Fail> {
+    for case in cases {
+        let source = joined(alloc, case.source)?;
+        let ended = call_on(alloc, "emit", case.recipe.as_bytes(), source.as_slice())?;
+        let name = case.name;
+        assert_eq!(rt; ended.status, 1, "status of {name}");
+        assert!(rt; ended.out.bytes().is_empty(), "text of {name}");
+        assert!(rt; ended.err.bytes() == case.line.as_bytes(), "line of {name}");
     }
     Ok(())
 }

@@ -2,7 +2,11 @@
 #![tactic(auto)]
 
 #[cfg(test)]
+mod affine_texts;
+#[cfg(test)]
 mod breaking;
+#[cfg(test)]
+mod expressions;
 #[cfg(test)]
 mod faulty_data;
 #[cfg(test)]
@@ -10,13 +14,37 @@ mod feeding;
 #[cfg(test)]
 mod harness;
 #[cfg(test)]
+mod identities;
+#[cfg(test)]
 mod inspecting;
 #[cfg(test)]
+mod large;
+#[cfg(test)]
+mod made_texts;
+#[cfg(test)]
 mod matrices;
+#[cfg(test)]
+mod outside;
+#[cfg(test)]
+mod plain_texts;
+#[cfg(test)]
+mod read_back;
+#[cfg(test)]
+mod refused_commands;
+#[cfg(test)]
+mod refused_names;
+#[cfg(test)]
+mod refused_recipes;
+#[cfg(test)]
+mod refused_sources;
+#[cfg(test)]
+mod refused_tokens;
 #[cfg(test)]
 mod running;
 #[cfg(test)]
 mod sparse;
+#[cfg(test)]
+mod sparse_texts;
 #[cfg(test)]
 mod texts;
 #[cfg(test)]
@@ -24,6 +52,6 @@ mod tracing;
 #[cfg(test)]
 mod weighing;
 #[cfg(test)]
-mod working;
+mod words;
 #[cfg(test)]
-mod writing;
+mod working;
