@@ -1,6 +1,6 @@
 // Runs whose files break, and runs whose sinks do.
 use crate::harness::{Ended, FIRST, Pieces, SECOND, call, joined, narrow_sink, two_files};
-use crate::inspecting::{BLOCK_DATA, BLOCK_SUMS, BLOCKS};
+use crate::inspecting::{BLOCK_DATA, BLOCK_INSPECTOR, BLOCK_SUMS};
 use crate::matrices::MATRIX;
 use crate::texts::PRODUCT;
 use chill_base::List;
@@ -87,7 +87,7 @@ fn hold_fronts(rt: &impl Abort, alloc: Global, made: &Call) -> Result<(), Fail> 
 
 const PRODUCT_FILES: &[Pieces; 2] = &[PRODUCT, &[MATRIX, "y 0 0 0\n"]];
 
-const BLOCK_FILES: &[Pieces; 2] = &[&[BLOCKS, BLOCK_SUMS], BLOCK_DATA];
+const BLOCK_FILES: &[Pieces; 2] = &[&[BLOCK_INSPECTOR, BLOCK_SUMS], BLOCK_DATA];
 // The third assignment has a fault.
 const FAULTY_FILES: &[Pieces; 2] = &[&[SOURCE], &["n 3\ny 1 2\n"]];
 

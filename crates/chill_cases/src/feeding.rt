@@ -6,8 +6,7 @@ ghost use Rattle.c_tokens.specs.Pieces.{tokens_of};
 use crate::faulty_data::FAULTS;
 use crate::harness::{Pieces, call_on, joined, narrow_sink};
 use crate::matrices::MATRIX;
-use crate::running::COPY;
-use crate::texts::PRODUCT;
+use crate::texts::{COPY, PRODUCT};
 use c_tree::Program;
 use chill_base::{List, Stop, Text};
 use csr_data::{DataReader, Values, ValuesFault, print_values};
@@ -82,7 +81,7 @@ fn read_data(rt: HostRuntime) -> Result<(), Fail> {
     let alloc = rt.alloc();
     let data: [(Pieces, Pieces); 2] = [
         (PRODUCT, &[MATRIX, "y 0 0 0\n"]),
-        (COPY, &["n 2\nb 18446744073709551615 0\nc 1 10\n"]),
+        (&[COPY], &["n 2\nb 18446744073709551615 0\nc 1 10\n"]),
     ];
     for (source, text) in data {
         let source = joined(alloc, source)?;

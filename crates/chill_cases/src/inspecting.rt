@@ -184,7 +184,7 @@ fn traced_programs(rt: HostRuntime) -> Result<(), Fail> {
 }
 
 /// The sparse product by blocks of two rows and two columns, with a further array, up to its executor.
-pub const BLOCKS: &str = "#pragma sparse csr(index, col, a, n, m, nnz)
+pub const BLOCK_INSPECTOR: &str = "#pragma sparse csr(index, col, a, n, m, nnz)
 void spmv(int64_t n, int64_t m, int64_t nnz, int64_t index[n+1], int64_t col[nnz], uint64_t a[nnz], uint64_t x[m], uint64_t y[n], uint64_t z[n+1])
 {
 #pragma sparse inspector
@@ -231,7 +231,7 @@ pub const BLOCK_DATA: Pieces = &[MATRIX, "y 0 0 0\nz 0 0 0 0\n"];
 // What the inspector of the blocks leaves, read by other executors.
 const READ_BLOCKS: &[Run] = &[
     (
-        &[PRELUDE, BLOCKS, BLOCK_SUMS],
+        &[PRELUDE, BLOCK_INSPECTOR, BLOCK_SUMS],
         BLOCK_DATA,
         &[MATRIX, "y 23 14 44\nz 0 0 0 0\n"],
         "",
@@ -239,7 +239,7 @@ const READ_BLOCKS: &[Run] = &[
     // As many turns as the cells say.
     (
         &[
-            BLOCKS,
+            BLOCK_INSPECTOR,
             "for (int64_t i = 0; i < 3; i++) for (int64_t v = 0; v < b_ptr[i]; v++) z[i] += 1; }",
         ],
         BLOCK_DATA,
@@ -248,7 +248,7 @@ const READ_BLOCKS: &[Run] = &[
     ),
     (
         &[
-            BLOCKS,
+            BLOCK_INSPECTOR,
             "for (int64_t i = 0; i < b_num[0]; i++) for (int64_t v = 0; v < b_val[i]; v++) z[i] += 1; }",
         ],
         BLOCK_DATA,
@@ -257,7 +257,7 @@ const READ_BLOCKS: &[Run] = &[
     ),
     (
         &[
-            BLOCKS,
+            BLOCK_INSPECTOR,
             "for (int64_t i = 0; i < 4; i++) z[i] = b_lay[i][0][0]+10*b_lay[i][0][1]+100*b_lay[i][1][0]+1000*b_lay[i][1][1]; }",
         ],
         BLOCK_DATA,
@@ -266,43 +266,43 @@ const READ_BLOCKS: &[Run] = &[
     ),
     // One past each extent.
     (
-        &[BLOCKS, "if (b_ptr[3] == 0) z[0] = 1; }"],
+        &[BLOCK_INSPECTOR, "if (b_ptr[3] == 0) z[0] = 1; }"],
         BLOCK_DATA,
         &[],
         "chill: executor 0: outside b_ptr\n",
     ),
     (
-        &[BLOCKS, "if (b_val[4] == 0) z[0] = 1; }"],
+        &[BLOCK_INSPECTOR, "if (b_val[4] == 0) z[0] = 1; }"],
         BLOCK_DATA,
         &[],
         "chill: executor 0: outside b_val\n",
     ),
     (
-        &[BLOCKS, "if (b_num[1] == 0) z[0] = 1; }"],
+        &[BLOCK_INSPECTOR, "if (b_num[1] == 0) z[0] = 1; }"],
         BLOCK_DATA,
         &[],
         "chill: executor 0: outside b_num\n",
     ),
     (
-        &[BLOCKS, "if (b_mark[2] == 0) z[0] = 1; }"],
+        &[BLOCK_INSPECTOR, "if (b_mark[2] == 0) z[0] = 1; }"],
         BLOCK_DATA,
         &[],
         "chill: executor 0: outside b_mark\n",
     ),
     (
-        &[BLOCKS, "z[0] = b_lay[4][0][0]; }"],
+        &[BLOCK_INSPECTOR, "z[0] = b_lay[4][0][0]; }"],
         BLOCK_DATA,
         &[],
         "chill: executor 0: outside b_lay\n",
     ),
     (
-        &[BLOCKS, "z[0] = b_lay[0][2][0]; }"],
+        &[BLOCK_INSPECTOR, "z[0] = b_lay[0][2][0]; }"],
         BLOCK_DATA,
         &[],
         "chill: executor 0: outside b_lay\n",
     ),
     (
-        &[BLOCKS, "z[0] = b_lay[0][0][2]; }"],
+        &[BLOCK_INSPECTOR, "z[0] = b_lay[0][0][2]; }"],
         BLOCK_DATA,
         &[],
         "chill: executor 0: outside b_lay\n",

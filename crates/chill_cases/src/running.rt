@@ -1,7 +1,7 @@
 // Runs of programs on data, and how they end.
 use crate::harness::{Pieces, call_on, joined};
 use crate::matrices::{MATRIX, REPEATED};
-use crate::texts::{PRODUCT, PRODUCT_HEAD};
+use crate::texts::{COPY, PRODUCT, PRODUCT_HEAD, SLANTED};
 use std::alloc::Global;
 use std::process::Abort;
 use std::test::Fail;
@@ -29,11 +29,6 @@ pub fn hold_runs(rt: &impl Abort, alloc: Global, command: &str, runs: &[Run]) ->
     }
     Ok(())
 }
-
-/// A loop that copies an array.
-pub const COPY: Pieces = &[
-    "void f(int64_t n, uint64_t b[n], uint64_t c[n]) { for (int64_t i = 0; i < n; i++) b[i] = c[i]; }",
-];
 
 const PRODUCTS: &[Run] = &[
     (
@@ -108,17 +103,15 @@ fn products(rt: HostRuntime) -> Result<(), Fail> {
 
 const PLAIN: &[Run] = &[
     (
-        COPY,
+        &[COPY],
         &["n 3\nb 0 0 0\nc 4 5 6\n"],
         &["n 3\nb 4 5 6\nc 4 5 6\n"],
         "",
     ),
-    (COPY, &["n 0\nb\nc\n"], &["n 0\nb\nc\n"], ""),
+    (&[COPY], &["n 0\nb\nc\n"], &["n 0\nb\nc\n"], ""),
     // Two extents, the last subscript running fastest; a cell is read that an earlier turn wrote.
     (
-        &[
-            "void f(int64_t n, int64_t m, uint64_t b[n][m]) { for (int64_t i = 1; i < n; i++) for (int64_t j = 0; j < m-1; j++) b[i][j] = b[i-1][j+1]; }",
-        ],
+        &[SLANTED],
         &["n 3\nm 3\nb 1 2 3 4 5 6 7 8 9\n"],
         &["n 3\nm 3\nb 1 2 3 2 3 6 3 6 9\n"],
         "",

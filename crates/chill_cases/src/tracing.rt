@@ -1,39 +1,21 @@
 // Traces of programs that recipes make.
 use crate::harness::Pieces;
 use crate::matrices::{EMPTY_ROW, FALLING, MADE_OF_FOUR, MADE_OF_TWO, MATRIX, NO_ROWS, REPEATED};
-use crate::running::COPY;
 use crate::sparse::{Made, hold_made};
-use crate::texts::{PRODUCT, PRODUCT_HEAD};
+use crate::texts::{
+    BLOCKS, CLEARED_BODY, COPY, DIAGONALS, FIXED_COPY, PRODUCT, PRODUCT_HEAD, ROWS, SLANTED,
+    SUM_BODY, TEN,
+};
 use std::test::Fail;
-
-/// Blocks of two rows and two columns.
-const BLOCKS: &str =
-    "make_dense(0,2)\ntile(0,1,2,1)\ntile(0,3,2,2)\ncompact_and_pad(0,2,block,b)\n";
-
-const DIAGONALS: &str =
-    "make_dense(0,2)\nskew(0,2,[-1])\npermute(0,[2,1,3])\ncompact_and_pad(0,1,diag,b)\n";
-
-const ROWS: &str = "compact_and_pad(0,2,rows,b)\n";
 
 /// The kept columns of each row.
 const KEPT: &str = "make_dense(0,2)\ncompact(0,2,b)\n";
 
 /// The product with sums in place of products.
-const SUM_PRODUCT: Pieces = &[
-    PRODUCT_HEAD,
-    "{ for (int64_t i = 0; i < n; i++) for (int64_t k = index[i]; k < index[i+1]; k++) y[i] += a[k] + x[col[k]]; }",
-];
+const SUM_PRODUCT: Pieces = &[PRODUCT_HEAD, SUM_BODY];
 
 /// The product, whose sums begin at 0.
-const CLEARED_PRODUCT: Pieces = &[
-    PRODUCT_HEAD,
-    "{ for (int64_t i = 0; i < n; i++) { y[i] = 0; for (int64_t k = index[i]; k < index[i+1]; k++) y[i] += a[k] * x[col[k]]; } }",
-];
-
-/// Each cell is that of the row before and the next column.
-const WAVE: Pieces = &[
-    "void f(int64_t n, int64_t m, uint64_t b[n][m]) { for (int64_t i = 1; i < n; i++) for (int64_t j = 0; j < m-1; j++) b[i][j] = b[i-1][j+1]; }",
-];
+const CLEARED_PRODUCT: Pieces = &[PRODUCT_HEAD, CLEARED_BODY];
 
 // Layouts with zeros.
 const PADDED: &[Made] = &[
@@ -461,7 +443,7 @@ const MOVED: &[Made] = &[
     Made {
         name: "exchanged loops of a skewed nest",
         recipe: "skew(0,2,[1])\npermute(0,[2,1])\n",
-        source: WAVE,
+        source: &[SLANTED],
         data: &["n 3\nm 3\nb 1 2 3 4 5 6 7 8 9\n"],
         lines: "0.1.0.1.0 b[1][0] = b[0][1]
 0.2.0.1.0 b[1][1] = b[0][2]
@@ -532,9 +514,7 @@ const MOVED: &[Made] = &[
     Made {
         name: "an unrolled loop",
         recipe: "unroll(0,1,4)",
-        source: &[
-            "void f(int64_t n, uint64_t b[10], uint64_t c[10]) { for (int64_t i = 0; i < 10; i++) b[i] = c[i]; }",
-        ],
+        source: &[TEN],
         data: &["n 0\nb 0 0 0 0 0 0 0 0 0 0\nc 1 2 3 4 5 6 7 8 9 10\n"],
         lines: "0.0.0 b[0] = c[0]
 0.0.1 b[1] = c[1]
@@ -553,7 +533,7 @@ const MOVED: &[Made] = &[
     Made {
         name: "a shifted loop",
         recipe: "shift(0,1,5)",
-        source: COPY,
+        source: &[COPY],
         data: &["n 2\nb 0 0\nc 8 9\n"],
         lines: "0.5.0 b[0] = c[0]
 0.6.0 b[1] = c[1]
@@ -564,7 +544,7 @@ const MOVED: &[Made] = &[
     Made {
         name: "a tiled loop",
         recipe: "tile(0,1,2,1)",
-        source: COPY,
+        source: &[COPY],
         data: &["n 3\nb 0 0 0\nc 7 8 9\n"],
         lines: "0.0.0.0.0 b[0] = c[0]
 0.0.0.1.0 b[1] = c[1]
@@ -576,9 +556,7 @@ const MOVED: &[Made] = &[
     Made {
         name: "a copy of an array",
         recipe: "datacopy(0,1,c,e)",
-        source: &[
-            "void f(int64_t n, uint64_t c[8], uint64_t d[8]) { for (int64_t i = 0; i < 8; i++) d[i] = c[i]; }",
-        ],
+        source: &[FIXED_COPY],
         data: &["n 1\nc 1 2 3 4 5 6 7 8\nd 0 0 0 0 0 0 0 0\n"],
         lines: "0.0.0 e[0] = c[0]
 0.1.0 e[1] = c[1]

@@ -48,40 +48,6 @@ fn large_summaries_are_the_same(rt: HostRuntime) -> Result<(), Fail> {
     Ok(())
 }
 
-/// The line of words that are no call.
-const USAGE: &str =
-    "chill: usage: chill emit RECIPE SOURCE, run PROGRAM DATA, trace PROGRAM DATA, work SEED SIZE\n";
-
-#[test]
-fn refused_seeds_and_sizes(rt: HostRuntime) -> Result<(), Fail> {
-    for (seed, size) in [
-        ("1", "0"),
-        ("1", "65537"),
-        ("1", "01"),
-        ("1", "+2"),
-        ("1", " 2"),
-        ("1", "2x"),
-        ("1", "-2"),
-        ("1", ""),
-        ("1", "4294967298"),
-        ("1", "18446744073709551617"),
-        ("", "2"),
-        ("01", "2"),
-        ("+1", "2"),
-        ("-1", "2"),
-        ("1x", "2"),
-        ("2147483648", "2"),
-        ("4294967297", "2"),
-        ("18446744073709551617", "2"),
-    ] {
-        let (status, out, err) = worked(rt.alloc(), seed, size)?;
-        assert_eq!(rt; status, 2, "{seed} {size}");
-        assert!(rt; out.is_empty(), "{seed} {size}");
-        assert!(rt; err.as_slice() == USAGE.as_bytes(), "{seed} {size}");
-    }
-    Ok(())
-}
-
 #[test]
 fn made_data(rt: HostRuntime) -> Result<(), Fail> {
     let alloc = rt.alloc();
