@@ -1,6 +1,6 @@
 // Runs whose files break, and runs whose sinks do.
 use crate::harness::{Ended, FIRST, Pieces, SECOND, call, joined, narrow_sink, two_files};
-use crate::inspecting::{BLOCK_DATA, BLOCK_INSPECTOR, BLOCK_SUMS};
+use crate::inspecting::READ_THROUGH;
 use crate::matrices::MATRIX;
 use crate::texts::PRODUCT;
 use chill_base::List;
@@ -70,7 +70,7 @@ fn broken(alloc: Global, made: &Call, failing: u64) -> Result<Ended, Fail> {
 fn hold_fronts(rt: &impl Abort, alloc: Global, made: &Call) -> Result<(), Fail> {
     let whole = broken(alloc, made, u64::MAX)?;
     let text = whole.out.bytes();
-    for failing in 0..4096 {
+    for failing in 0..512 {
         let ended = broken(alloc, made, failing)?;
         let taken = ended.out.bytes();
         if ended.status != 4 {
@@ -87,20 +87,20 @@ fn hold_fronts(rt: &impl Abort, alloc: Global, made: &Call) -> Result<(), Fail> 
 
 const PRODUCT_FILES: &[Pieces; 2] = &[PRODUCT, &[MATRIX, "y 0 0 0\n"]];
 
-const BLOCK_FILES: &[Pieces; 2] = &[&[BLOCK_INSPECTOR, BLOCK_SUMS], BLOCK_DATA];
+const TRACED_FILES: &[Pieces; 2] = &[&[READ_THROUGH], &["n 2\ny 0 0\n"]];
+
 // The third assignment has a fault.
 const FAULTY_FILES: &[Pieces; 2] = &[&[SOURCE], &["n 3\ny 1 2\n"]];
 
 const CALLS: &[Call] = &[
-    (&["run", FIRST, SECOND], PRODUCT_FILES, 1),
     (&["run", FIRST, SECOND], PRODUCT_FILES, 16),
     (&["run", FIRST, SECOND], PRODUCT_FILES, 4096),
     (&["run", FIRST, SECOND], FAULTY_FILES, 1),
-    (&["trace", FIRST, SECOND], BLOCK_FILES, 1),
-    (&["trace", FIRST, SECOND], BLOCK_FILES, 4096),
+    (&["trace", FIRST, SECOND], TRACED_FILES, 1),
+    (&["trace", FIRST, SECOND], TRACED_FILES, 4096),
     (&["trace", FIRST, SECOND], FAULTY_FILES, 1),
     (&["trace", FIRST, SECOND], FAULTY_FILES, 4096),
-    (&["work", "1", "2"], FAULTY_FILES, 1),
+    (&["work", "1", "2"], FAULTY_FILES, 16),
 ];
 
 #[test]

@@ -13,7 +13,7 @@ INDEX1(c); GROW(c, n); for (int64_t i = 0; i < n; i++) c[i] = 2*i;
 for (int64_t i = 0; i < n; i++) if (c[i] >= 4) y[0] += 1; }";
 
 /// An index array of two extents, read through another one.
-const READ_THROUGH: &str = "void g(int64_t n, uint64_t y[n])
+pub const READ_THROUGH: &str = "void g(int64_t n, uint64_t y[n])
 {
 #pragma sparse inspector
   INDEX1(c);
@@ -184,7 +184,7 @@ fn traced_programs(rt: HostRuntime) -> Result<(), Fail> {
 }
 
 /// The sparse product by blocks of two rows and two columns, with a further array, up to its executor.
-pub const BLOCK_INSPECTOR: &str = "#pragma sparse csr(index, col, a, n, m, nnz)
+const BLOCK_INSPECTOR: &str = "#pragma sparse csr(index, col, a, n, m, nnz)
 void spmv(int64_t n, int64_t m, int64_t nnz, int64_t index[n+1], int64_t col[nnz], uint64_t a[nnz], uint64_t x[m], uint64_t y[n], uint64_t z[n+1])
 {
 #pragma sparse inspector
@@ -213,7 +213,7 @@ void spmv(int64_t n, int64_t m, int64_t nnz, int64_t index[n+1], int64_t col[nnz
 ";
 
 /// The sums over blocks.
-pub const BLOCK_SUMS: &str = "  for (int64_t t1 = ceild(-1, 2); t1 < floord(n-1, 2)+1; t1++) {
+const BLOCK_SUMS: &str = "  for (int64_t t1 = ceild(-1, 2); t1 < floord(n-1, 2)+1; t1++) {
     for (int64_t t2 = b_ptr[t1]; t2 < b_ptr[t1+1]; t2++) {
       for (int64_t t3 = max(0, 2*t1); t3 < min(n, 2*t1+2); t3++) {
         for (int64_t t4 = max(0, 2*b_val[t2]); t4 < min(m, 2*b_val[t2]+2); t4++) {
@@ -226,7 +226,7 @@ pub const BLOCK_SUMS: &str = "  for (int64_t t1 = ceild(-1, 2); t1 < floord(n-1,
 ";
 
 /// Data of the sums over blocks.
-pub const BLOCK_DATA: Pieces = &[MATRIX, "y 0 0 0\nz 0 0 0 0\n"];
+const BLOCK_DATA: Pieces = &[MATRIX, "y 0 0 0\nz 0 0 0 0\n"];
 
 // What the inspector of the blocks leaves, read by other executors.
 const READ_BLOCKS: &[Run] = &[
