@@ -118,10 +118,10 @@ fn a_byte_that_is_no_letter(rt: HostRuntime) -> Result<(), Fail> {
         "1;\n}\n",
     )?;
     let ended = call_on(alloc, "emit", b"", source.as_slice())?;
-    assert!(rt; ended.err.bytes() == b"chill: syntax at token 19\n");
+    assert!(rt; ended.err.bytes() == b"chill: syntax at token 19\n".as_slice());
     let recipe = with_byte(alloc, "# ", "\nshift(0,1)\n")?;
     let ended = call_on(alloc, "emit", recipe.as_slice(), b"")?;
-    assert!(rt; ended.err.bytes() == b"chill: recipe line 2\n");
+    assert!(rt; ended.err.bytes() == b"chill: recipe line 2\n".as_slice());
     let source = with_byte(
         alloc,
         "/* ",
