@@ -374,7 +374,7 @@ const RECIPES: [Made; 6] = [
 ];
 
 /// The text of the parts.
-pub fn made(alloc: Global, parts: &[&str; 5], times: usize) -> Result<Text, AllocError> {
+pub fn repeated(alloc: Global, parts: &[&str; 5], times: usize) -> Result<Text, AllocError> {
     let [front, open, middle, close, back] = parts;
     let mut text = Vec::new(alloc);
     text.extend_from_slice(front.as_bytes())?;
@@ -408,7 +408,7 @@ fn ends_with(
 fn made_sources_hold(rt: HostRuntime) -> Result<(), Fail> {
     let alloc = rt.alloc();
     for case in &SOURCES {
-        let text = made(alloc, &case.parts, case.times)?;
+        let text = repeated(alloc, &case.parts, case.times)?;
         ends_with(&rt, alloc, case, b"", text.as_slice())?;
     }
     Ok(())
@@ -418,7 +418,7 @@ fn made_sources_hold(rt: HostRuntime) -> Result<(), Fail> {
 fn made_recipes_hold(rt: HostRuntime) -> Result<(), Fail> {
     let alloc = rt.alloc();
     for case in &RECIPES {
-        let text = made(alloc, &case.parts, case.times)?;
+        let text = repeated(alloc, &case.parts, case.times)?;
         ends_with(&rt, alloc, case, text.as_slice(), SQUARE.as_bytes())?;
     }
     Ok(())
