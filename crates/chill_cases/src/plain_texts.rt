@@ -4,7 +4,7 @@ use crate::texts::{COPY, COPY_PRINTED, PRELUDE, PRODUCT, PRODUCT_HEAD, PRODUCT_P
 use std::test::Fail;
 
 /// Sources with loops, and what is written for them without commands.
-pub const PLAIN_TEXTS: [Case; 10] = [
+pub const PLAIN_TEXTS: [Case; 11] = [
     Case {
         name: "the product",
         command: "emit",
@@ -171,6 +171,27 @@ void f(int64_t sparse, /* here too */ uint64_t csr[sparse], uint64_t inspector[s
       y[t1] = 1;
     }
     y[t1] += y[t1] * y[t1];
+  }
+}
+",
+        ],
+        err: "",
+    },
+    Case {
+        name: "a read that falls out of a subscript",
+        command: "emit",
+        first: &[],
+        second: &[
+            PRODUCT_HEAD,
+            "{ for (int64_t i = 0; i < n; i++) y[i+index[i]-index[i]] = 1; }\n",
+        ],
+        status: 0,
+        out: &[
+            PRELUDE,
+            PRODUCT_HEAD,
+            "{
+  for (int64_t t1 = 0; t1 < n; t1++) {
+    y[t1] = 1;
   }
 }
 ",

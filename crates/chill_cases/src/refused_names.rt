@@ -1,5 +1,6 @@
 // Programs that break a limit, or a rule of names.
 use crate::harness::{Refused, refuse};
+use crate::texts::PRODUCT_HEAD;
 use std::test::Fail;
 
 /// Programs, and the first count or name that breaks a rule.
@@ -154,11 +155,7 @@ y[0] = 1; }
     Refused {
         name: "a cell of an index array as data",
         recipe: "",
-        source: &[
-            "#pragma sparse csr(index, col, a, n, m, nnz)
-void spmv(int64_t n, int64_t m, int64_t nnz, int64_t index[n+1], int64_t col[nnz], uint64_t a[nnz], uint64_t x[m], uint64_t y[n])
-{ y[0] = col[0]; }",
-        ],
+        source: &[PRODUCT_HEAD, "{ y[0] = col[0]; }"],
         line: "chill: name col: kind\n",
     },
     Refused {
@@ -212,11 +209,7 @@ y[0] = 1; }
     Refused {
         name: "two subscripts of an index array as target",
         recipe: "",
-        source: &[
-            "#pragma sparse csr(index, col, a, n, m, nnz)
-void spmv(int64_t n, int64_t m, int64_t nnz, int64_t index[n+1], int64_t col[nnz], uint64_t a[nnz], uint64_t x[m], uint64_t y[n])
-{ col[0][0] = 1; }",
-        ],
+        source: &[PRODUCT_HEAD, "{ col[0][0] = 1; }"],
         line: "chill: name col: dimensions\n",
     },
     Refused {
@@ -297,11 +290,7 @@ void spmv(int64_t n, int64_t m, int64_t nnz, int64_t index[n+1], int64_t begin[n
     Refused {
         name: "a column that is written",
         recipe: "",
-        source: &[
-            "#pragma sparse csr(index, col, a, n, m, nnz)
-void spmv(int64_t n, int64_t m, int64_t nnz, int64_t index[n+1], int64_t col[nnz], uint64_t a[nnz], uint64_t x[m], uint64_t y[n])
-{ col[0] = 1; }",
-        ],
+        source: &[PRODUCT_HEAD, "{ col[0] = 1; }"],
         line: "chill: name col: fixed\n",
     },
     Refused {

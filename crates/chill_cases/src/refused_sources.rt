@@ -1,9 +1,10 @@
 // Programs that are no sources.
 use crate::harness::{Refused, refuse};
+use crate::texts::PRODUCT_HEAD;
 use std::test::Fail;
 
 /// Programs that can be run, and why no recipe is applied to them.
-const SOURCES: [Refused; 17] = [
+const SOURCES: [Refused; 18] = [
     Refused {
         name: "a multiple past the limit",
         recipe: "",
@@ -78,9 +79,8 @@ const SOURCES: [Refused; 17] = [
         name: "a column's column",
         recipe: "",
         source: &[
-            "#pragma sparse csr(index, col, a, n, m, nnz)
-void spmv(int64_t n, int64_t m, int64_t nnz, int64_t index[n+1], int64_t col[nnz], uint64_t a[nnz], uint64_t x[m], uint64_t y[n])
-{ for (int64_t i = 0; i < nnz; i++) y[0] += x[col[col[i]]]; }",
+            PRODUCT_HEAD,
+            "{ for (int64_t i = 0; i < nnz; i++) y[0] += x[col[col[i]]]; }",
         ],
         line: "chill: source: statement 0 isn't affine\n",
     },
@@ -120,9 +120,8 @@ void spmv(int64_t n, int64_t m, int64_t nnz, int64_t index[n+1], int64_t col[nnz
         name: "a column below a row's number of cells",
         recipe: "",
         source: &[
-            "#pragma sparse csr(index, col, a, n, m, nnz)
-void spmv(int64_t n, int64_t m, int64_t nnz, int64_t index[n+1], int64_t col[nnz], uint64_t a[nnz], uint64_t x[m], uint64_t y[n])
-{ for (int64_t i = 0; i < nnz; i++) y[col[i]] = 1; }",
+            PRODUCT_HEAD,
+            "{ for (int64_t i = 0; i < nnz; i++) y[col[i]] = 1; }",
         ],
         line: "chill: source: statement 0 reaches past y\n",
     },
@@ -130,11 +129,19 @@ void spmv(int64_t n, int64_t m, int64_t nnz, int64_t index[n+1], int64_t col[nnz
         name: "where a row begins, past the last",
         recipe: "",
         source: &[
-            "#pragma sparse csr(index, col, a, n, m, nnz)
-void spmv(int64_t n, int64_t m, int64_t nnz, int64_t index[n+1], int64_t col[nnz], uint64_t a[nnz], uint64_t x[m], uint64_t y[n])
-{ for (int64_t i = 0; i < n; i++) for (int64_t k = index[i+1]; k < index[i+2]; k++) y[i] = a[k]; }",
+            PRODUCT_HEAD,
+            "{ for (int64_t i = 0; i < n; i++) for (int64_t k = index[i+1]; k < index[i+2]; k++) y[i] = a[k]; }",
         ],
         line: "chill: source: statement 0 reaches past index\n",
+    },
+    Refused {
+        name: "a column that is taken no times",
+        recipe: "",
+        source: &[
+            PRODUCT_HEAD,
+            "{ for (int64_t i = 0; i < n; i++) y[i+0*col[m]] = 1; }",
+        ],
+        line: "chill: source: statement 0 reaches past col\n",
     },
     Refused {
         name: "a read behind a guard that keeps others out",
