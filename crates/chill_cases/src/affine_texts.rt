@@ -19,11 +19,7 @@ pub const AFFINE_TEXTS: [Case; 15] = [
     Case {
         name: "skewed and exchanged loops",
         command: "emit",
-        first: &[
-            "skew(0,2,[1])
-permute(0,[2,1])
-",
-        ],
+        first: &["skew(0,2,[1])\npermute(0,[2,1])\n"],
         second: &[SLANTED],
         status: 0,
         out: &[
@@ -65,13 +61,9 @@ permute(0,[2,1])
     Case {
         name: "a band with exchanged loops",
         command: "emit",
-        first: &[
-            "permute(0,[2,1])
-",
-        ],
+        first: &["permute(0,[2,1])\n"],
         second: &[
-            "void f(int64_t n, int64_t m, uint64_t b[n][m]) { for (int64_t i = 0; i < n; i++) for (int64_t j = i; j < min(m, i+5); j++) b[i][j] = 1; }
-",
+            "void f(int64_t n, int64_t m, uint64_t b[n][m]) { for (int64_t i = 0; i < n; i++) for (int64_t j = i; j < min(m, i+5); j++) b[i][j] = 1; }\n",
         ],
         status: 0,
         out: &[
@@ -91,11 +83,7 @@ permute(0,[2,1])
     Case {
         name: "a tiled loop, moved inside a statement that is less deep",
         command: "emit",
-        first: &[
-            "tile(0,1,2,1)
-permute(1,[2,1,3])
-",
-        ],
+        first: &["tile(0,1,2,1)\npermute(1,[2,1,3])\n"],
         second: &[PRODUCT_HEAD, CLEARED_BODY],
         status: 0,
         out: &[
@@ -143,8 +131,7 @@ permute(1,[2,1,3])
         command: "emit",
         first: &["fuse(0,1,1)"],
         second: &[
-            "void f(int64_t n, int64_t m, uint64_t b[n], uint64_t d[m]) { for (int64_t i = 0; i < n; i++) b[i] = 1;
-  for (int64_t i = 0; i < m; i++) d[i] = 2; }",
+            "void f(int64_t n, int64_t m, uint64_t b[n], uint64_t d[m]) { for (int64_t i = 0; i < n; i++) b[i] = 1;\n  for (int64_t i = 0; i < m; i++) d[i] = 2; }",
         ],
         status: 0,
         out: &[
@@ -167,10 +154,7 @@ permute(1,[2,1,3])
     Case {
         name: "two statements of one loop apart",
         command: "emit",
-        first: &[
-            "distribute(1,1)
-",
-        ],
+        first: &["distribute(1,1)\n"],
         second: &[PRODUCT_HEAD, CLEARED_BODY],
         status: 0,
         out: &[
@@ -193,10 +177,7 @@ permute(1,[2,1,3])
     Case {
         name: "a shifted loop",
         command: "emit",
-        first: &[
-            "shift(0,1,-3)
-",
-        ],
+        first: &["shift(0,1,-3)\n"],
         second: &[COPY],
         status: 0,
         out: &[
@@ -265,11 +246,7 @@ permute(1,[2,1,3])
     Case {
         name: "a copy of one cell for each tile",
         command: "emit",
-        first: &[
-            "tile(0,1,4,1)
-datacopy(0,2,x,e)
-",
-        ],
+        first: &["tile(0,1,4,1)\ndatacopy(0,2,x,e)\n"],
         second: &[
             "void f(int64_t n, uint64_t d[n], uint64_t x[1]) { for (int64_t i = 0; i < n; i++) d[i] = x[0]; }",
         ],
@@ -301,13 +278,7 @@ datacopy(0,2,x,e)
         name: "a copy whose outer loop is open at one side, skewed",
         command: "emit",
         first: &[
-            "permute(0,[2,1,3])
-skew(0,2,[-1])
-permute(0,[2,1,3])
-permute(0,[1,3,2])
-datacopy(0,2,x,c)
-skew(0,2,[1])
-",
+            "permute(0,[2,1,3])\nskew(0,2,[-1])\npermute(0,[2,1,3])\npermute(0,[1,3,2])\ndatacopy(0,2,x,c)\nskew(0,2,[1])\n",
         ],
         second: &[
             "void f(int64_t n, uint64_t d[n][n][n], uint64_t x[4]) {
@@ -346,12 +317,7 @@ skew(0,2,[1])
         name: "blanks between tokens, a comment, and a zero with a sign",
         command: "emit",
         first: &[
-            "#shift(0
-
-shift ( 0 , 1 , -0 )
-skew(0,1,[ ])
-skew(0,2,[-0])
-permute(0,[1 , 2])",
+            "#shift(0\n\nshift ( 0 , 1 , -0 )\nskew(0,1,[ ])\nskew(0,2,[-0])\npermute(0,[1 , 2])",
         ],
         second: PRODUCT,
         status: 0,
@@ -361,10 +327,7 @@ permute(0,[1 , 2])",
     Case {
         name: "a recipe of comments alone",
         command: "emit",
-        first: &[
-            "# nothing
-#",
-        ],
+        first: &["# nothing\n#"],
         second: PRODUCT,
         status: 0,
         out: &[PRELUDE, PRODUCT_HEAD, PRODUCT_PRINTED],

@@ -1,7 +1,7 @@
 // Commands that change nothing.
 use crate::affine_texts::AFFINE_TEXTS;
 use crate::harness::{Case, call_on, joined};
-use crate::made_texts::made;
+use crate::made_texts::repeated;
 use crate::plain_texts::PLAIN_TEXTS;
 use crate::sparse_texts::SPARSE_TEXTS;
 use std::alloc::Global;
@@ -13,7 +13,7 @@ const NOTHING: &str = "permute(0,[1])\nshift(0,1,0)\nskew(0,1,[])\nshift(0,1,-0)
 
 // The sources of these calls are written alike without commands and by 64 that change nothing.
 fn stay(rt: &impl Abort, alloc: Global, cases: &[Case]) -> Result<(), Fail> {
-    let nothing = made(alloc, &["", NOTHING, "", "", ""], 16)?;
+    let nothing = repeated(alloc, &["", NOTHING, "", "", ""], 16)?;
     for case in cases {
         let source = joined(alloc, case.second)?;
         let plain = call_on(alloc, "emit", b"", source.as_slice())?;

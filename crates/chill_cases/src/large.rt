@@ -1,6 +1,6 @@
 // Texts that are large, deep or long.
 use crate::harness::call_on;
-use crate::made_texts::made;
+use crate::made_texts::repeated;
 use crate::read_back::printed;
 use crate::texts::PRELUDE;
 use chill_base::Text;
@@ -44,11 +44,11 @@ const BLANKS: &str = "                                                          
 #[test]
 fn long_sums(rt: HostRuntime) -> Result<(), Fail> {
     let alloc = rt.alloc();
-    let sum = made(alloc, &SUM, 99_999)?;
+    let sum = repeated(alloc, &SUM, 99_999)?;
     let ended = call_on(alloc, "emit", b"", sum.as_slice())?;
     assert_eq!(rt; ended.status, 0);
     assert!(rt; ended.out.bytes().strip_prefix(PRELUDE.as_bytes()) == Some(sum.as_slice()));
-    let subscript = made(alloc, &SUBSCRIPT, 50_000)?;
+    let subscript = repeated(alloc, &SUBSCRIPT, 50_000)?;
     let ended = call_on(alloc, "emit", b"", subscript.as_slice())?;
     assert_eq!(rt; ended.status, 0);
     assert!(rt; ended.out.bytes().strip_prefix(PRELUDE.as_bytes()) == Some(CELL.as_bytes()));
@@ -58,7 +58,7 @@ fn long_sums(rt: HostRuntime) -> Result<(), Fail> {
 #[test]
 fn deep_parentheses_read_back(rt: HostRuntime) -> Result<(), Fail> {
     let alloc = rt.alloc();
-    let deep = made(alloc, &DEEP, 255)?;
+    let deep = repeated(alloc, &DEEP, 255)?;
     let again = printed(alloc, deep.as_slice())?;
     assert!(rt; again.as_slice().strip_prefix(PRELUDE.as_bytes()) == Some(deep.as_slice()));
     Ok(())
@@ -82,7 +82,7 @@ fn blanks_end_with(
 #[test]
 fn files_at_the_limit(rt: HostRuntime) -> Result<(), Fail> {
     let alloc = rt.alloc();
-    let within = made(alloc, &["", BLANKS, "", "", ""], 1_048_576)?;
+    let within = repeated(alloc, &["", BLANKS, "", "", ""], 1_048_576)?;
     blanks_end_with(
         &rt,
         alloc,
@@ -90,7 +90,7 @@ fn files_at_the_limit(rt: HostRuntime) -> Result<(), Fail> {
         "chill: recipe line 1\n",
         "chill: syntax at token 1\n",
     )?;
-    let past = made(alloc, &["", BLANKS, " ", "", ""], 1_048_576)?;
+    let past = repeated(alloc, &["", BLANKS, " ", "", ""], 1_048_576)?;
     blanks_end_with(
         &rt,
         alloc,
@@ -118,10 +118,10 @@ fn a_byte_that_is_no_letter(rt: HostRuntime) -> Result<(), Fail> {
         "1;\n}\n",
     )?;
     let ended = call_on(alloc, "emit", b"", source.as_slice())?;
-    assert!(rt; ended.err.bytes() == b"chill: syntax at token 19\n");
+    assert!(rt; ended.err.bytes() == b"chill: syntax at token 19\n".as_slice());
     let recipe = with_byte(alloc, "# ", "\nshift(0,1)\n")?;
     let ended = call_on(alloc, "emit", recipe.as_slice(), b"")?;
-    assert!(rt; ended.err.bytes() == b"chill: recipe line 2\n");
+    assert!(rt; ended.err.bytes() == b"chill: recipe line 2\n".as_slice());
     let source = with_byte(
         alloc,
         "/* ",

@@ -15,8 +15,7 @@ struct Made {
 
 /// A square of sums, to which the recipes are applied.
 const SQUARE: &str =
-    "void f(int64_t n, uint64_t y[1]) { for (int64_t i = 0; i < n; i++) for (int64_t j = 0; j < n; j++) y[0] += 1; }
-";
+    "void f(int64_t n, uint64_t y[1]) { for (int64_t i = 0; i < n; i++) for (int64_t j = 0; j < n; j++) y[0] += 1; }\n";
 
 /// Sources.
 const SOURCES: [Made; 26] = [
@@ -27,8 +26,7 @@ const SOURCES: [Made; 26] = [
             "(",
             "1",
             ")",
-            "; }
-",
+            "; }\n",
         ],
         times: 255,
         line: "",
@@ -40,12 +38,10 @@ const SOURCES: [Made; 26] = [
             "(",
             "1",
             ")",
-            "; }
-",
+            "; }\n",
         ],
         times: 256,
-        line: "chill: syntax at token 274
-",
+        line: "chill: syntax at token 274\n",
     },
     Made {
         name: "300 parentheses",
@@ -54,12 +50,10 @@ const SOURCES: [Made; 26] = [
             "(",
             "1",
             ")",
-            "; }
-",
+            "; }\n",
         ],
         times: 300,
-        line: "chill: syntax at token 274
-",
+        line: "chill: syntax at token 274\n",
     },
     Made {
         name: "254 parentheses in a subscript",
@@ -68,8 +62,7 @@ const SOURCES: [Made; 26] = [
             "(",
             "0",
             ")",
-            "] = 1; }
-",
+            "] = 1; }\n",
         ],
         times: 254,
         line: "",
@@ -81,12 +74,10 @@ const SOURCES: [Made; 26] = [
             "(",
             "0",
             ")",
-            "] = 1; }
-",
+            "] = 1; }\n",
         ],
         times: 255,
-        line: "chill: syntax at token 270
-",
+        line: "chill: syntax at token 270\n",
     },
     Made {
         name: "a cell in 254 parentheses",
@@ -95,8 +86,7 @@ const SOURCES: [Made; 26] = [
             "(",
             "y[0]",
             ")",
-            "; }
-",
+            "; }\n",
         ],
         times: 254,
         line: "",
@@ -108,12 +98,10 @@ const SOURCES: [Made; 26] = [
             "(",
             "y[0]",
             ")",
-            "; }
-",
+            "; }\n",
         ],
         times: 255,
-        line: "chill: syntax at token 274
-",
+        line: "chill: syntax at token 274\n",
     },
     Made {
         name: "a least number in 254 parentheses",
@@ -122,12 +110,10 @@ const SOURCES: [Made; 26] = [
             "(",
             "min(0, 0)",
             ")",
-            "] = 1; }
-",
+            "] = 1; }\n",
         ],
         times: 254,
-        line: "chill: syntax at token 270
-",
+        line: "chill: syntax at token 270\n",
     },
     Made {
         name: "a name in 254 parentheses",
@@ -136,12 +122,10 @@ const SOURCES: [Made; 26] = [
             "(",
             "n",
             ")",
-            "] = 1; }
-",
+            "] = 1; }\n",
         ],
         times: 254,
-        line: "chill: source: statement 0 reaches past y
-",
+        line: "chill: source: statement 0 reaches past y\n",
     },
     Made {
         name: "eight loops of one name",
@@ -150,12 +134,10 @@ const SOURCES: [Made; 26] = [
             "for (int64_t i = 0; i < n; i++) ",
             "y[0] = 1;",
             "",
-            " }
-",
+            " }\n",
         ],
         times: 8,
-        line: "chill: name i: twice
-",
+        line: "chill: name i: twice\n",
     },
     Made {
         name: "nine loops",
@@ -164,12 +146,10 @@ const SOURCES: [Made; 26] = [
             "for (int64_t i = 0; i < n; i++) ",
             "y[0] = 1;",
             "",
-            " }
-",
+            " }\n",
         ],
         times: 9,
-        line: "chill: syntax at token 126
-",
+        line: "chill: syntax at token 126\n",
     },
     Made {
         name: "sixteen guards",
@@ -178,8 +158,7 @@ const SOURCES: [Made; 26] = [
             "if (n < 2) ",
             "y[0] = 1;",
             "",
-            " }
-",
+            " }\n",
         ],
         times: 16,
         line: "",
@@ -191,12 +170,10 @@ const SOURCES: [Made; 26] = [
             "if (n < 2) ",
             "y[0] = 1;",
             "",
-            " }
-",
+            " }\n",
         ],
         times: 17,
-        line: "chill: syntax at token 110
-",
+        line: "chill: syntax at token 110\n",
     },
     Made {
         name: "32 names of the signature",
@@ -205,12 +182,10 @@ const SOURCES: [Made; 26] = [
             "int64_t n, ",
             "int64_t n",
             "",
-            ") { y[0] = 1; }
-",
+            ") { y[0] = 1; }\n",
         ],
         times: 31,
-        line: "chill: name n: twice
-",
+        line: "chill: name n: twice\n",
     },
     Made {
         name: "33 names of the signature",
@@ -219,84 +194,58 @@ const SOURCES: [Made; 26] = [
             "int64_t n, ",
             "int64_t n",
             "",
-            ") { y[0] = 1; }
-",
+            ") { y[0] = 1; }\n",
         ],
         times: 32,
-        line: "chill: limit: 33 signature names
-",
+        line: "chill: limit: 33 signature names\n",
     },
     Made {
         name: "384 growable arrays",
         parts: [
-            "void f(int64_t n, uint64_t y[1]) { 
-#pragma sparse inspector
-",
+            "void f(int64_t n, uint64_t y[1]) { \n#pragma sparse inspector\n",
             "INDEX1(c); ",
             "",
             "",
-            "
-#pragma sparse executor
-y[0] = 1; }
-",
+            "\n#pragma sparse executor\ny[0] = 1; }\n",
         ],
         times: 384,
-        line: "chill: name c: twice
-",
+        line: "chill: name c: twice\n",
     },
     Made {
         name: "385 growable arrays",
         parts: [
-            "void f(int64_t n, uint64_t y[1]) { 
-#pragma sparse inspector
-",
+            "void f(int64_t n, uint64_t y[1]) { \n#pragma sparse inspector\n",
             "INDEX1(c); ",
             "",
             "",
-            "
-#pragma sparse executor
-y[0] = 1; }
-",
+            "\n#pragma sparse executor\ny[0] = 1; }\n",
         ],
         times: 385,
-        line: "chill: limit: 385 growable arrays
-",
+        line: "chill: limit: 385 growable arrays\n",
     },
     Made {
         name: "2,048 statements of the inspector",
         parts: [
-            "void f(int64_t n, uint64_t y[1]) { 
-#pragma sparse inspector
-",
+            "void f(int64_t n, uint64_t y[1]) { \n#pragma sparse inspector\n",
             "GROW(c, 1); ",
             "",
             "",
-            "
-#pragma sparse executor
-y[0] = 1; }
-",
+            "\n#pragma sparse executor\ny[0] = 1; }\n",
         ],
         times: 2048,
-        line: "chill: name c: unknown
-",
+        line: "chill: name c: unknown\n",
     },
     Made {
         name: "2,049 statements of the inspector",
         parts: [
-            "void f(int64_t n, uint64_t y[1]) { 
-#pragma sparse inspector
-",
+            "void f(int64_t n, uint64_t y[1]) { \n#pragma sparse inspector\n",
             "GROW(c, 1); ",
             "",
             "",
-            "
-#pragma sparse executor
-y[0] = 1; }
-",
+            "\n#pragma sparse executor\ny[0] = 1; }\n",
         ],
         times: 2049,
-        line: "chill: limit: 2049 inspector statements
-",
+        line: "chill: limit: 2049 inspector statements\n",
     },
     Made {
         name: "64 assignments",
@@ -305,12 +254,10 @@ y[0] = 1; }
             "y[0] = q[0]; ",
             "",
             "",
-            "}
-",
+            "}\n",
         ],
         times: 64,
-        line: "chill: name q: unknown
-",
+        line: "chill: name q: unknown\n",
     },
     Made {
         name: "65 assignments",
@@ -319,12 +266,10 @@ y[0] = 1; }
             "y[0] = q[0]; ",
             "",
             "",
-            "}
-",
+            "}\n",
         ],
         times: 65,
-        line: "chill: limit: 65 assignments
-",
+        line: "chill: limit: 65 assignments\n",
     },
     Made {
         name: "parentheses in parentheses, 64",
@@ -333,8 +278,7 @@ y[0] = 1; }
             "1 - (",
             "1",
             ")",
-            "; }
-",
+            "; }\n",
         ],
         times: 64,
         line: "",
@@ -346,12 +290,10 @@ y[0] = 1; }
             "1 - (",
             "1",
             ")",
-            "; }
-",
+            "; }\n",
         ],
         times: 65,
-        line: "chill: source: limit: 65 nest
-",
+        line: "chill: source: limit: 65 nest\n",
     },
     Made {
         name: "a bound of 32 operands",
@@ -360,8 +302,7 @@ y[0] = 1; }
             "min(n, ",
             "n",
             ")",
-            "; i++) y[0] = 1; }
-",
+            "; i++) y[0] = 1; }\n",
         ],
         times: 31,
         line: "",
@@ -373,12 +314,10 @@ y[0] = 1; }
             "min(n, ",
             "n",
             ")",
-            "; i++) y[0] = 1; }
-",
+            "; i++) y[0] = 1; }\n",
         ],
         times: 32,
-        line: "chill: source: limit: 33 bounds
-",
+        line: "chill: source: limit: 33 bounds\n",
     },
     Made {
         name: "a name of 63 bytes behind a program",
@@ -387,12 +326,10 @@ y[0] = 1; }
             "y",
             "",
             "",
-            "
-",
+            "\n",
         ],
         times: 63,
-        line: "chill: syntax at token 22
-",
+        line: "chill: syntax at token 22\n",
     },
 ];
 
@@ -400,94 +337,44 @@ y[0] = 1; }
 const RECIPES: [Made; 6] = [
     Made {
         name: "64 commands",
-        parts: [
-            "",
-            "shift(0,1,0)
-",
-            "",
-            "",
-            "",
-        ],
+        parts: ["", "shift(0,1,0)\n", "", "", ""],
         times: 64,
         line: "",
     },
     Made {
         name: "65 commands",
-        parts: [
-            "",
-            "shift(0,1,0)
-",
-            "",
-            "",
-            "",
-        ],
+        parts: ["", "shift(0,1,0)\n", "", "", ""],
         times: 65,
-        line: "chill: recipe: 65 commands
-",
+        line: "chill: recipe: 65 commands\n",
     },
     Made {
         name: "66 commands and a line of none",
-        parts: [
-            "",
-            "shift(0,1,0)
-",
-            "shift",
-            "",
-            "",
-        ],
+        parts: ["", "shift(0,1,0)\n", "shift", "", ""],
         times: 66,
-        line: "chill: recipe line 67
-",
+        line: "chill: recipe line 67\n",
     },
     Made {
         name: "forms past 126 bits",
-        parts: [
-            "",
-            "skew(0,2,[64])
-permute(0,[2,1])
-",
-            "",
-            "",
-            "",
-        ],
+        parts: ["", "skew(0,2,[64])\npermute(0,[2,1])\n", "", "", ""],
         times: 32,
-        line: "chill: command 41: overflow
-",
+        line: "chill: command 41: overflow\n",
     },
     Made {
         name: "bounds past 62 bits",
-        parts: [
-            "",
-            "skew(0,2,[64])
-permute(0,[2,1])
-",
-            "",
-            "",
-            "",
-        ],
+        parts: ["", "skew(0,2,[64])\npermute(0,[2,1])\n", "", "", ""],
         times: 4,
-        line: "chill: scan: size in statement 0
-",
+        line: "chill: scan: size in statement 0\n",
     },
     Made {
         name: "projected bounds past 126 bits",
-        parts: [
-            "",
-            "skew(0,2,[64])
-permute(0,[2,1])
-",
-            "",
-            "",
-            "",
-        ],
+        parts: ["", "skew(0,2,[64])\npermute(0,[2,1])\n", "", "", ""],
         times: 12,
-        line: "chill: scan: overflow
-",
+        line: "chill: scan: overflow\n",
     },
 ];
 
 /// The text of the parts.
-pub fn made(alloc: Global, parts: &[&str; 5], times: usize) -> Result<Text, AllocError> {
+pub fn repeated(alloc: Global, parts: &[&str; 5], times: usize) -> Result<Text, AllocError> {
     let [front, open, middle, close, back] = parts;
     let mut text = Vec::new(alloc);
     text.extend_from_slice(front.as_bytes())?;
@@ -521,7 +408,7 @@ fn ends_with(
 fn made_sources_hold(rt: HostRuntime) -> Result<(), Fail> {
     let alloc = rt.alloc();
     for case in &SOURCES {
-        let text = made(alloc, &case.parts, case.times)?;
+        let text = repeated(alloc, &case.parts, case.times)?;
         ends_with(&rt, alloc, case, b"", text.as_slice())?;
     }
     Ok(())
@@ -531,7 +418,7 @@ fn made_sources_hold(rt: HostRuntime) -> Result<(), Fail> {
 fn made_recipes_hold(rt: HostRuntime) -> Result<(), Fail> {
     let alloc = rt.alloc();
     for case in &RECIPES {
-        let text = made(alloc, &case.parts, case.times)?;
+        let text = repeated(alloc, &case.parts, case.times)?;
         ends_with(&rt, alloc, case, text.as_slice(), SQUARE.as_bytes())?;
     }
     Ok(())

@@ -43,7 +43,7 @@ fn writes_fail(rt: &impl Abort, alloc: Global, source: &[u8], text: &[u8]) -> Re
         assert_eq!(rt; ended.status, 4, "status at {at}");
         assert!(rt; ended.out.bytes() == &text[..at], "text at {at}");
         assert!(rt;
-            ended.err.bytes() == b"chill: write fault\n",
+            ended.err.bytes() == b"chill: write fault\n".as_slice(),
             "line at {at}"
         );
     }
@@ -94,6 +94,6 @@ fn a_fault_of_the_line_changes_nothing(rt: HostRuntime) -> Result<(), Fail> {
     let ended = call_into(alloc, &["emit", FIRST, SECOND], files, out, err)?;
     assert_eq!(rt; ended.status, 1);
     assert!(rt; ended.out.bytes().is_empty());
-    assert!(rt; ended.err.bytes() == b"chill: co");
+    assert!(rt; ended.err.bytes() == b"chill: co".as_slice());
     Ok(())
 }

@@ -4,7 +4,7 @@ use crate::texts::{COPY, COPY_PRINTED, PRELUDE, PRODUCT, PRODUCT_HEAD, PRODUCT_P
 use std::test::Fail;
 
 /// Sources with loops, and what is written for them without commands.
-pub const PLAIN_TEXTS: [Case; 10] = [
+pub const PLAIN_TEXTS: [Case; 11] = [
     Case {
         name: "the product",
         command: "emit",
@@ -46,8 +46,7 @@ pub const PLAIN_TEXTS: [Case; 10] = [
         command: "emit",
         first: &[],
         second: &[
-            "void g(int64_t n, int64_t m, uint64_t b[n][m]) { for (int64_t i = 0; i < n; i++) for (int64_t j = 0; j < m; j++) b[i][j] = 1; }
-",
+            "void g(int64_t n, int64_t m, uint64_t b[n][m]) { for (int64_t i = 0; i < n; i++) for (int64_t j = 0; j < m; j++) b[i][j] = 1; }\n",
         ],
         status: 0,
         out: &[
@@ -138,8 +137,7 @@ void f(int64_t sparse, /* here too */ uint64_t csr[sparse], uint64_t inspector[s
         command: "emit",
         first: &[],
         second: &[
-            "void f(int64_t n, int64_t m, uint64_t y[n]) { for (int64_t i = 0; i < n; i++) if (i >= 2 && i < m) y[i] = 1; }
-",
+            "void f(int64_t n, int64_t m, uint64_t y[n]) { for (int64_t i = 0; i < n; i++) if (i >= 2 && i < m) y[i] = 1; }\n",
         ],
         status: 0,
         out: &[
@@ -161,8 +159,7 @@ void f(int64_t sparse, /* here too */ uint64_t csr[sparse], uint64_t inspector[s
         command: "emit",
         first: &[],
         second: &[
-            "void f(int64_t n, int64_t m, uint64_t y[n]) { for (int64_t i = max(0, 3*m-4); i < min(n, m); i++) { if (2*i == m) y[i] = 1; y[i] += y[i]*y[i]; } }
-",
+            "void f(int64_t n, int64_t m, uint64_t y[n]) { for (int64_t i = max(0, 3*m-4); i < min(n, m); i++) { if (2*i == m) y[i] = 1; y[i] += y[i]*y[i]; } }\n",
         ],
         status: 0,
         out: &[
@@ -180,6 +177,27 @@ void f(int64_t sparse, /* here too */ uint64_t csr[sparse], uint64_t inspector[s
         ],
         err: "",
     },
+    Case {
+        name: "a read that falls out of a subscript",
+        command: "emit",
+        first: &[],
+        second: &[
+            PRODUCT_HEAD,
+            "{ for (int64_t i = 0; i < n; i++) y[i+index[i]-index[i]] = 1; }\n",
+        ],
+        status: 0,
+        out: &[
+            PRELUDE,
+            PRODUCT_HEAD,
+            "{
+  for (int64_t t1 = 0; t1 < n; t1++) {
+    y[t1] = 1;
+  }
+}
+",
+        ],
+        err: "",
+    },
 ];
 
 /// A source without loops, to which no command applies.
@@ -187,10 +205,7 @@ pub const LOOPLESS: [Case; 1] = [Case {
     name: "no loop",
     command: "emit",
     first: &[],
-    second: &[
-        "void f(int64_t n, uint64_t y[1]) { y[0] = 18446744073709551615; }
-",
-    ],
+    second: &["void f(int64_t n, uint64_t y[1]) { y[0] = 18446744073709551615; }\n"],
     status: 0,
     out: &[
         PRELUDE,

@@ -12,7 +12,7 @@ use std::test::Fail;
 
 /// The program of the text, printed.
 pub fn printed(alloc: Global, text: &[u8]) -> Result<Text, Fail> {
-    let program = read_program(alloc, text)?;
+    let program = read_program(alloc, text).ok().ok_or("a program")?;
     Ok(print_program(alloc, &program)?)
 }
 

@@ -8,117 +8,89 @@ const TEXTS: [Refused; 64] = [
         name: "an empty file",
         recipe: "",
         source: &[""],
-        line: "chill: syntax at token 1
-",
+        line: "chill: syntax at token 1\n",
     },
     Refused {
         name: "a comment alone",
         recipe: "",
-        source: &[
-            "/* nothing */ // at all
-",
-        ],
-        line: "chill: syntax at token 1
-",
+        source: &["/* nothing */ // at all\n"],
+        line: "chill: syntax at token 1\n",
     },
     Refused {
         name: "an open comment",
         recipe: "",
         source: &["/* void f"],
-        line: "chill: syntax at token 1
-",
+        line: "chill: syntax at token 1\n",
     },
     Refused {
         name: "an open comment behind a program",
         recipe: "",
         source: &["void f(int64_t n, uint64_t y[n]) { y[0] = 1; } /* *"],
-        line: "chill: syntax at token 22
-",
+        line: "chill: syntax at token 22\n",
     },
     Refused {
         name: "a text that ends early",
         recipe: "",
         source: &["void f(int64_t n, uint64_t y[n]) { for (int64_t i = 0; i < n; i++) y[i] = 1;"],
-        line: "chill: syntax at token 35
-",
+        line: "chill: syntax at token 35\n",
     },
     Refused {
         name: "a name behind a program",
         recipe: "",
         source: &["void f(int64_t n, uint64_t y[n]) { y[0] = 1; } x"],
-        line: "chill: syntax at token 22
-",
+        line: "chill: syntax at token 22\n",
     },
     Refused {
         name: "a second procedure",
         recipe: "",
         source: &["void f(int64_t n, uint64_t y[n]) { y[0] = 1; } void g(int64_t n) { }"],
-        line: "chill: syntax at token 22
-",
+        line: "chill: syntax at token 22\n",
     },
     Refused {
         name: "a sign of another language",
         recipe: "",
         source: &["void f(int64_t n, uint64_t y[n]) { y[0] = 1 / 2; }"],
-        line: "chill: syntax at token 20
-",
+        line: "chill: syntax at token 20\n",
     },
     Refused {
         name: "a letter of another alphabet",
         recipe: "",
         source: &["void f(int64_t n, uint64_t y[n]) { é[0] = 1; }"],
-        line: "chill: syntax at token 14
-",
+        line: "chill: syntax at token 14\n",
     },
     Refused {
         name: "a macro that isn't the prelude's",
         recipe: "",
-        source: &[
-            "#define N 4
-void f(int64_t n, uint64_t y[n]) { y[0] = 1; }",
-        ],
-        line: "chill: syntax at token 1
-",
+        source: &["#define N 4\nvoid f(int64_t n, uint64_t y[n]) { y[0] = 1; }"],
+        line: "chill: syntax at token 1\n",
     },
     Refused {
         name: "a line of the prelude behind a blank",
         recipe: "",
         source: &[
-            " #define ceild(a, b) (-floord(-(a), (b)))
-void f(int64_t n, uint64_t y[n]) { y[0] = 1; }",
+            " #define ceild(a, b) (-floord(-(a), (b)))\nvoid f(int64_t n, uint64_t y[n]) { y[0] = 1; }",
         ],
-        line: "chill: syntax at token 1
-",
+        line: "chill: syntax at token 1\n",
     },
     Refused {
         name: "a line of the prelude with a blank at its end",
         recipe: "",
         source: &[
-            "#define ceild(a, b) (-floord(-(a), (b))) 
-void f(int64_t n, uint64_t y[n]) { y[0] = 1; }",
+            "#define ceild(a, b) (-floord(-(a), (b))) \nvoid f(int64_t n, uint64_t y[n]) { y[0] = 1; }",
         ],
-        line: "chill: syntax at token 1
-",
+        line: "chill: syntax at token 1\n",
     },
     Refused {
         name: "an included file behind a token",
         recipe: "",
-        source: &[
-            "void #include <stdint.h>
-f(int64_t n, uint64_t y[n]) { y[0] = 1; }",
-        ],
-        line: "chill: syntax at token 2
-",
+        source: &["void #include <stdint.h>\nf(int64_t n, uint64_t y[n]) { y[0] = 1; }"],
+        line: "chill: syntax at token 2\n",
     },
     Refused {
         name: "an included file behind a comment",
         recipe: "",
-        source: &[
-            "/* */ #include <stdint.h>
-void f(int64_t n, uint64_t y[n]) { y[0] = 1; }",
-        ],
-        line: "chill: syntax at token 1
-",
+        source: &["/* */ #include <stdint.h>\nvoid f(int64_t n, uint64_t y[n]) { y[0] = 1; }"],
+        line: "chill: syntax at token 1\n",
     },
     Refused {
         name: "a line of five names",
@@ -128,8 +100,7 @@ void f(int64_t n, uint64_t y[n]) { y[0] = 1; }",
 void spmv(int64_t n, int64_t m, int64_t nnz, int64_t index[n+1], int64_t col[nnz], uint64_t a[nnz], uint64_t x[m], uint64_t y[n])
 { y[0] = 1; }",
         ],
-        line: "chill: syntax at token 14
-",
+        line: "chill: syntax at token 14\n",
     },
     Refused {
         name: "a sparse line behind a program",
@@ -137,95 +108,81 @@ void spmv(int64_t n, int64_t m, int64_t nnz, int64_t index[n+1], int64_t col[nnz
         source: &[
             "void f(int64_t n, uint64_t y[n]) { y[0] = 1; } #pragma sparse csr(index, col, a, n, m, nnz)",
         ],
-        line: "chill: syntax at token 22
-",
+        line: "chill: syntax at token 22\n",
     },
     Refused {
         name: "a sparse line of another kind",
         recipe: "",
         source: &[
-            "#pragma sparse csc(index, col, a, n, m, nnz)
-void f(int64_t n, uint64_t y[n]) { y[0] = 1; }",
+            "#pragma sparse csc(index, col, a, n, m, nnz)\nvoid f(int64_t n, uint64_t y[n]) { y[0] = 1; }",
         ],
-        line: "chill: syntax at token 3
-",
+        line: "chill: syntax at token 3\n",
     },
     Refused {
         name: "no signature",
         recipe: "",
         source: &["void f() { y[0] = 1; }"],
-        line: "chill: syntax at token 4
-",
+        line: "chill: syntax at token 4\n",
     },
     Refused {
         name: "a parameter behind an array",
         recipe: "",
         source: &["void f(uint64_t y[1], int64_t n) { y[0] = 1; }"],
-        line: "chill: syntax at token 12
-",
+        line: "chill: syntax at token 12\n",
     },
     Refused {
         name: "a parameter of another type",
         recipe: "",
         source: &["void f(int n, uint64_t y[1]) { y[0] = 1; }"],
-        line: "chill: syntax at token 4
-",
+        line: "chill: syntax at token 4\n",
     },
     Refused {
         name: "a procedure by a word of the language",
         recipe: "",
         source: &["void min(int64_t n, uint64_t y[1]) { y[0] = 1; }"],
-        line: "chill: syntax at token 2
-",
+        line: "chill: syntax at token 2\n",
     },
     Refused {
         name: "an array without extents",
         recipe: "",
         source: &["void f(int64_t n, uint64_t y) { y[0] = 1; }"],
-        line: "chill: syntax at token 9
-",
+        line: "chill: syntax at token 9\n",
     },
     Refused {
         name: "four extents",
         recipe: "",
         source: &["void f(int64_t n, uint64_t y[n][n][n][n]) { y[0] = 1; }"],
-        line: "chill: syntax at token 18
-",
+        line: "chill: syntax at token 18\n",
     },
     Refused {
         name: "two extents of an index array",
         recipe: "",
         source: &["void f(int64_t n, int64_t p[n][n]) { y[0] = 1; }"],
-        line: "chill: syntax at token 12
-",
+        line: "chill: syntax at token 12\n",
     },
     Refused {
         name: "an empty body",
         recipe: "",
         source: &["void f(int64_t n, uint64_t y[n]) { }"],
-        line: "chill: syntax at token 14
-",
+        line: "chill: syntax at token 14\n",
     },
     Refused {
         name: "an empty loop",
         recipe: "",
         source: &["void f(int64_t n, uint64_t y[n]) { for (int64_t i = 0; i < n; i++) { } }"],
-        line: "chill: syntax at token 29
-",
+        line: "chill: syntax at token 29\n",
     },
     Refused {
         name: "a loop of two names",
         recipe: "",
         source: &["void f(int64_t n, uint64_t y[n]) { for (int64_t i = 0; j < n; i++) y[i] = 1; }"],
-        line: "chill: syntax at token 21
-",
+        line: "chill: syntax at token 21\n",
     },
     Refused {
         name: "a step of another name",
         recipe: "",
         source: &["void f(int64_t n, uint64_t y[n]) { for (int64_t i = 0; i < n; j++) y[i] = 1; }"],
-        line: "chill: syntax at token 25
-",
+        line: "chill: syntax at token 25\n",
     },
     Refused {
         name: "a step by another sign",
@@ -233,8 +190,7 @@ void f(int64_t n, uint64_t y[n]) { y[0] = 1; }",
         source: &[
             "void f(int64_t n, uint64_t y[n]) { for (int64_t i = 0; i < n; i += 1) y[i] = 1; }",
         ],
-        line: "chill: syntax at token 26
-",
+        line: "chill: syntax at token 26\n",
     },
     Refused {
         name: "a loop's test by another sign",
@@ -242,8 +198,7 @@ void f(int64_t n, uint64_t y[n]) { y[0] = 1; }",
         source: &[
             "void f(int64_t n, uint64_t y[n]) { for (int64_t i = 0; i <= n; i++) y[i] = 1; }",
         ],
-        line: "chill: syntax at token 22
-",
+        line: "chill: syntax at token 22\n",
     },
     Refused {
         name: "a test by two signs",
@@ -251,8 +206,7 @@ void f(int64_t n, uint64_t y[n]) { y[0] = 1; }",
         source: &[
             "void f(int64_t n, uint64_t y[n]) { for (int64_t i = 0; i < n; i++) if (i =< n) y[i] = 1; }",
         ],
-        line: "chill: syntax at token 31
-",
+        line: "chill: syntax at token 31\n",
     },
     Refused {
         name: "a test by a sign of no token",
@@ -260,8 +214,7 @@ void f(int64_t n, uint64_t y[n]) { y[0] = 1; }",
         source: &[
             "void f(int64_t n, uint64_t y[n]) { for (int64_t i = 0; i < n; i++) if (i != n) y[i] = 1; }",
         ],
-        line: "chill: syntax at token 31
-",
+        line: "chill: syntax at token 31\n",
     },
     Refused {
         name: "a test without a sign",
@@ -269,8 +222,7 @@ void f(int64_t n, uint64_t y[n]) { y[0] = 1; }",
         source: &[
             "void f(int64_t n, uint64_t y[n]) { for (int64_t i = 0; i < n; i++) if (i) y[i] = 1; }",
         ],
-        line: "chill: syntax at token 31
-",
+        line: "chill: syntax at token 31\n",
     },
     Refused {
         name: "tests joined by a bar",
@@ -278,8 +230,7 @@ void f(int64_t n, uint64_t y[n]) { y[0] = 1; }",
         source: &[
             "void f(int64_t n, uint64_t y[n]) { for (int64_t i = 0; i < n; i++) if (i < 2 || i < 3) y[i] = 1; }",
         ],
-        line: "chill: syntax at token 33
-",
+        line: "chill: syntax at token 33\n",
     },
     Refused {
         name: "another branch",
@@ -287,71 +238,61 @@ void f(int64_t n, uint64_t y[n]) { y[0] = 1; }",
         source: &[
             "void f(int64_t n, uint64_t y[n]) { for (int64_t i = 0; i < n; i++) { if (i < 2) y[i] = 1; else y[i] = 2; } }",
         ],
-        line: "chill: syntax at token 42
-",
+        line: "chill: syntax at token 42\n",
     },
     Refused {
         name: "a sum as target",
         recipe: "",
         source: &["void f(int64_t n, uint64_t y[n]) { y[0] + 1 = 2; }"],
-        line: "chill: syntax at token 18
-",
+        line: "chill: syntax at token 18\n",
     },
     Refused {
         name: "an equality as assignment",
         recipe: "",
         source: &["void f(int64_t n, uint64_t y[n]) { y[0] == 1; }"],
-        line: "chill: syntax at token 18
-",
+        line: "chill: syntax at token 18\n",
     },
     Refused {
         name: "no semicolon",
         recipe: "",
         source: &["void f(int64_t n, uint64_t y[n]) { y[0] = 1 }"],
-        line: "chill: syntax at token 20
-",
+        line: "chill: syntax at token 20\n",
     },
     Refused {
         name: "a call",
         recipe: "",
         source: &["void f(int64_t n, uint64_t y[n]) { y(0) = 1; }"],
-        line: "chill: syntax at token 15
-",
+        line: "chill: syntax at token 15\n",
     },
     Refused {
         name: "a leading zero",
         recipe: "",
         source: &["void f(int64_t n, uint64_t y[n]) { y[0] = 007; }"],
-        line: "chill: syntax at token 19
-",
+        line: "chill: syntax at token 19\n",
     },
     Refused {
         name: "a number past 64 bits",
         recipe: "",
         source: &["void f(int64_t n, uint64_t y[n]) { y[0] = 18446744073709551616; }"],
-        line: "chill: syntax at token 19
-",
+        line: "chill: syntax at token 19\n",
     },
     Refused {
         name: "a number with letters",
         recipe: "",
         source: &["void f(int64_t n, uint64_t y[n]) { y[0] = 1u; }"],
-        line: "chill: syntax at token 19
-",
+        line: "chill: syntax at token 19\n",
     },
     Refused {
         name: "a negative number",
         recipe: "",
         source: &["void f(int64_t n, uint64_t y[n]) { y[0] = -1; }"],
-        line: "chill: syntax at token 19
-",
+        line: "chill: syntax at token 19\n",
     },
     Refused {
         name: "a loop variable as data",
         recipe: "",
         source: &["void f(int64_t n, uint64_t y[n]) { for (int64_t i = 0; i < n; i++) y[i] = i; }"],
-        line: "chill: syntax at token 34
-",
+        line: "chill: syntax at token 34\n",
     },
     Refused {
         name: "a name of 64 bytes",
@@ -359,22 +300,19 @@ void f(int64_t n, uint64_t y[n]) { y[0] = 1; }",
         source: &[
             "void f(int64_t n, uint64_t y[n]) { y[0] = aaaaaaaaaaaaaaaaaaaaaaaaaaaaaaaaaaaaaaaaaaaaaaaaaaaaaaaaaaaaaaaa[0]; }",
         ],
-        line: "chill: syntax at token 19
-",
+        line: "chill: syntax at token 19\n",
     },
     Refused {
         name: "four subscripts",
         recipe: "",
         source: &["void f(int64_t n, uint64_t y[n]) { y[0][0][0][0] = 1; }"],
-        line: "chill: syntax at token 24
-",
+        line: "chill: syntax at token 24\n",
     },
     Refused {
         name: "an index past 62 bits",
         recipe: "",
         source: &["void f(int64_t n, uint64_t y[n]) { y[4611686018427387905] = 1; }"],
-        line: "chill: syntax at token 16
-",
+        line: "chill: syntax at token 16\n",
     },
     Refused {
         name: "a product of two names",
@@ -382,8 +320,7 @@ void f(int64_t n, uint64_t y[n]) { y[0] = 1; }",
         source: &[
             "void f(int64_t n, uint64_t y[n]) { for (int64_t i = 0; i < n; i++) y[i*n] = 1; }",
         ],
-        line: "chill: syntax at token 32
-",
+        line: "chill: syntax at token 32\n",
     },
     Refused {
         name: "a product of three",
@@ -391,8 +328,7 @@ void f(int64_t n, uint64_t y[n]) { y[0] = 1; }",
         source: &[
             "void f(int64_t n, uint64_t y[n]) { for (int64_t i = 0; i < n; i++) y[2*3*i] = 1; }",
         ],
-        line: "chill: syntax at token 33
-",
+        line: "chill: syntax at token 33\n",
     },
     Refused {
         name: "two signs",
@@ -400,8 +336,7 @@ void f(int64_t n, uint64_t y[n]) { y[0] = 1; }",
         source: &[
             "void f(int64_t n, uint64_t y[n]) { for (int64_t i = 0; i < n; i++) y[--i] = 1; }",
         ],
-        line: "chill: syntax at token 31
-",
+        line: "chill: syntax at token 31\n",
     },
     Refused {
         name: "a division by zero",
@@ -409,8 +344,7 @@ void f(int64_t n, uint64_t y[n]) { y[0] = 1; }",
         source: &[
             "void f(int64_t n, uint64_t y[n]) { for (int64_t i = 0; i < n; i++) y[floord(i, 0)] = 1; }",
         ],
-        line: "chill: syntax at token 34
-",
+        line: "chill: syntax at token 34\n",
     },
     Refused {
         name: "a division by a name",
@@ -418,8 +352,7 @@ void f(int64_t n, uint64_t y[n]) { y[0] = 1; }",
         source: &[
             "void f(int64_t n, uint64_t y[n]) { for (int64_t i = 0; i < n; i++) y[ceild(i, n)] = 1; }",
         ],
-        line: "chill: syntax at token 34
-",
+        line: "chill: syntax at token 34\n",
     },
     Refused {
         name: "a least of one",
@@ -427,8 +360,7 @@ void f(int64_t n, uint64_t y[n]) { y[0] = 1; }",
         source: &[
             "void f(int64_t n, uint64_t y[n]) { for (int64_t i = 0; i < n; i++) y[min(i)] = 1; }",
         ],
-        line: "chill: syntax at token 33
-",
+        line: "chill: syntax at token 33\n",
     },
     Refused {
         name: "an executor without an inspector",
@@ -438,8 +370,7 @@ void f(int64_t n, uint64_t y[n]) { y[0] = 1; }",
 #pragma sparse executor
 y[0] = 1; }",
         ],
-        line: "chill: syntax at token 16
-",
+        line: "chill: syntax at token 16\n",
     },
     Refused {
         name: "an inspector without an executor",
@@ -450,8 +381,7 @@ y[0] = 1; }",
 INDEX1(c);
 }",
         ],
-        line: "chill: syntax at token 22
-",
+        line: "chill: syntax at token 22\n",
     },
     Refused {
         name: "an empty inspector",
@@ -462,18 +392,15 @@ INDEX1(c);
 #pragma sparse executor
 y[0] = 1; }",
         ],
-        line: "chill: syntax at token 17
-",
+        line: "chill: syntax at token 17\n",
     },
     Refused {
         name: "a section in a loop",
         recipe: "",
         source: &[
-            "void f(int64_t n, uint64_t y[n]) { for (int64_t i = 0; i < n; i++) { #pragma sparse executor
-y[i] = 1; } }",
+            "void f(int64_t n, uint64_t y[n]) { for (int64_t i = 0; i < n; i++) { #pragma sparse executor\ny[i] = 1; } }",
         ],
-        line: "chill: syntax at token 29
-",
+        line: "chill: syntax at token 29\n",
     },
     Refused {
         name: "a declaration in a loop",
@@ -485,8 +412,7 @@ for (int64_t i = 0; i < n; i++) { INDEX1(c); }
 #pragma sparse executor
 y[0] = 1; }",
         ],
-        line: "chill: syntax at token 32
-",
+        line: "chill: syntax at token 32\n",
     },
     Refused {
         name: "a declaration in the executor",
@@ -498,8 +424,7 @@ INDEX1(c);
 #pragma sparse executor
 y[0] = 1; DATA1(d); }",
         ],
-        line: "chill: syntax at token 32
-",
+        line: "chill: syntax at token 32\n",
     },
     Refused {
         name: "a growth in the executor",
@@ -511,8 +436,7 @@ INDEX1(c);
 #pragma sparse executor
 GROW(c, 1); y[0] = 1; }",
         ],
-        line: "chill: syntax at token 25
-",
+        line: "chill: syntax at token 25\n",
     },
     Refused {
         name: "a declaration of one extent too few",
@@ -524,8 +448,7 @@ INDEX2(c);
 #pragma sparse executor
 y[0] = 1; }",
         ],
-        line: "chill: syntax at token 20
-",
+        line: "chill: syntax at token 20\n",
     },
     Refused {
         name: "a name in the data of a growable array",
@@ -537,8 +460,7 @@ DATA1(d); GROW(d, n); d[0] = n;
 #pragma sparse executor
 y[0] = 1; }",
         ],
-        line: "chill: syntax at token 35
-",
+        line: "chill: syntax at token 35\n",
     },
     Refused {
         name: "a product of cells in a growable index array",
@@ -550,8 +472,7 @@ INDEX1(c); GROW(c, n); c[0] = c[0]*c[0];
 #pragma sparse executor
 y[0] = 1; }",
         ],
-        line: "chill: syntax at token 39
-",
+        line: "chill: syntax at token 39\n",
     },
     Refused {
         name: "an index array in the executor",
@@ -563,8 +484,7 @@ INDEX1(c); GROW(c, n);
 #pragma sparse executor
 c[0] = n; }",
         ],
-        line: "chill: syntax at token 38
-",
+        line: "chill: syntax at token 38\n",
     },
 ];
 

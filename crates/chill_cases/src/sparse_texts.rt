@@ -163,11 +163,7 @@ pub const SPARSE_TEXTS: [Case; 6] = [
     Case {
         name: "compacted columns of sums",
         command: "emit",
-        first: &[
-            "make_dense(0,2)
-compact(0,2,b)
-",
-        ],
+        first: &["make_dense(0,2)\ncompact(0,2,b)\n"],
         second: &[PRODUCT_HEAD, SUM_BODY],
         status: 0,
         out: &[
@@ -212,12 +208,7 @@ compact(0,2,b)
         name: "blocks behind a loop of their own",
         command: "emit",
         first: &[
-            "distribute(1,1)
-make_dense(1,2)
-tile(1,1,2,1)
-tile(1,3,2,2)
-compact_and_pad(1,2,block,b)
-",
+            "distribute(1,1)\nmake_dense(1,2)\ntile(1,1,2,1)\ntile(1,3,2,2)\ncompact_and_pad(1,2,block,b)\n",
         ],
         second: &[PRODUCT_HEAD, CLEARED_BODY],
         status: 0,

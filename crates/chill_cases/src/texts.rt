@@ -65,15 +65,11 @@ compact_and_pad(0,2,block,b)
 ";
 
 /// Makes diagonals.
-pub const DIAGONALS: &str = "make_dense(0,2)
-skew(0,2,[-1])
-permute(0,[2,1,3])
-compact_and_pad(0,1,diag,b)
-";
+pub const DIAGONALS: &str =
+    "make_dense(0,2)\nskew(0,2,[-1])\npermute(0,[2,1,3])\ncompact_and_pad(0,1,diag,b)\n";
 
 /// Makes rows of one width.
-pub const ROWS: &str = "compact_and_pad(0,2,rows,b)
-";
+pub const ROWS: &str = "compact_and_pad(0,2,rows,b)\n";
 
 /// An array that is written from its next row and column before.
 pub const SLANTED: &str = "void f(int64_t n, int64_t m, uint64_t b[n][m]) {

@@ -4,7 +4,7 @@ use chill_base::List;
 use std::test::Fail;
 
 /// Wrong numbers of words, empty words, words that begin as options, other commands, and numbers of `work` that are none.
-const WORDS: [&[&str]; 33] = [
+const WORDS: [&[&str]; 34] = [
     &[],
     &["emit"],
     &["emit", "first"],
@@ -22,6 +22,7 @@ const WORDS: [&[&str]; 33] = [
     &["Emit", "first", "second"],
     &["emi", "first", "second"],
     &["print", "first", "second"],
+    &["market", "first", "second"],
     &["run", "first"],
     &["trace", "first", "second", "third"],
     &["first", "second", "emit"],
