@@ -1,8 +1,7 @@
 // Data texts that are refused.
 use crate::feeding::Fault;
 use crate::harness::Pieces;
-use crate::running::{Run, hold_runs};
-use std::test::Fail;
+use crate::running::Run;
 
 /// Texts for the sparse product, and what their line says of them.
 pub const FAULTS: &[Fault] = &[
@@ -151,7 +150,8 @@ const TWO_MATRICES: Pieces = &[
     "#pragma sparse csr(i, c, a, n, m, z)\n#pragma sparse csr(j, d, b, n, m, w)\nvoid f(int64_t n, int64_t m, int64_t z, int64_t w, int64_t i[n+1], int64_t c[z], uint64_t a[z], int64_t j[n+1], int64_t d[w], uint64_t b[w], uint64_t y[1]) { y[0] = a[0] + b[0]; }",
 ];
 
-const OTHERS: &[Run] = &[
+/// Runs on data of other programs.
+pub const OTHERS: &[Run] = &[
     (
         TWO_MATRICES,
         &["n 1\nm 1\nz 1\nw 1\ni 0 1\nc 0\na 4\nj 0 1\nd 0\nb 5\ny 0\n"],
@@ -210,8 +210,3 @@ const OTHERS: &[Run] = &[
         "chill: name q: unknown\n",
     ),
 ];
-
-#[test]
-fn data_of_other_programs(rt: HostRuntime) -> Result<(), Fail> {
-    hold_runs(&rt, rt.alloc(), "run", OTHERS)
-}

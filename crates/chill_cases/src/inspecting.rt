@@ -1,9 +1,8 @@
 // Programs whose inspectors make arrays.
 use crate::harness::Pieces;
 use crate::matrices::MATRIX;
-use crate::running::{Run, hold_runs};
+use crate::running::Run;
 use crate::texts::PRELUDE;
-use std::test::Fail;
 
 /// An index array that is grown at once and written in a loop.
 const DOUBLES: &str = "void g(int64_t n, uint64_t y[1]) {
@@ -74,7 +73,8 @@ const KEPT: &str = "void g(int64_t n, uint64_t x[n], uint64_t y[n])
 }
 ";
 
-const MADE_ARRAYS: &[Run] = &[
+/// What is read from arrays that inspectors made.
+pub const MADE_ARRAYS: &[Run] = &[
     (&[DOUBLES], &["n 5\ny 0\n"], &["n 5\ny 3\n"], ""),
     (&[DOUBLES], &["n 0\ny 7\n"], &["n 0\ny 7\n"], ""),
     (
@@ -97,12 +97,8 @@ const MADE_ARRAYS: &[Run] = &[
     ),
 ];
 
-#[test]
-fn made_arrays(rt: HostRuntime) -> Result<(), Fail> {
-    hold_runs(&rt, rt.alloc(), "run", MADE_ARRAYS)
-}
-
-const TRACED: &[Run] = &[
+/// Lines of traces.
+pub const TRACED: &[Run] = &[
     (
         &[READ_THROUGH],
         &["n 2\ny 0 0\n"],
@@ -178,11 +174,6 @@ const TRACED: &[Run] = &[
     ),
 ];
 
-#[test]
-fn traced_programs(rt: HostRuntime) -> Result<(), Fail> {
-    hold_runs(&rt, rt.alloc(), "trace", TRACED)
-}
-
 /// The sparse product by blocks of two rows and two columns, with a further array, up to its executor.
 const BLOCK_INSPECTOR: &str = "#pragma sparse csr(index, col, a, n, m, nnz)
 void spmv(int64_t n, int64_t m, int64_t nnz, int64_t index[n+1], int64_t col[nnz], uint64_t a[nnz], uint64_t x[m], uint64_t y[n], uint64_t z[n+1])
@@ -228,8 +219,8 @@ const BLOCK_SUMS: &str = "  for (int64_t t1 = ceild(-1, 2); t1 < floord(n-1, 2)+
 /// Data of the sums over blocks.
 const BLOCK_DATA: Pieces = &[MATRIX, "y 0 0 0\nz 0 0 0 0\n"];
 
-// What the inspector of the blocks leaves, read by other executors.
-const READ_BLOCKS: &[Run] = &[
+/// What the inspector of the blocks leaves, read by other executors.
+pub const READ_BLOCKS: &[Run] = &[
     (
         &[PRELUDE, BLOCK_INSPECTOR, BLOCK_SUMS],
         BLOCK_DATA,
@@ -308,8 +299,3 @@ const READ_BLOCKS: &[Run] = &[
         "chill: executor 0: outside b_lay\n",
     ),
 ];
-
-#[test]
-fn blocks_are_read(rt: HostRuntime) -> Result<(), Fail> {
-    hold_runs(&rt, rt.alloc(), "run", READ_BLOCKS)
-}

@@ -26,6 +26,8 @@ mod matrices;
 #[cfg(test)]
 mod outside;
 #[cfg(test)]
+mod plain_runs;
+#[cfg(test)]
 mod plain_texts;
 #[cfg(test)]
 mod read_back;

@@ -327,11 +327,6 @@ const PADDED: &[Made] = &[
     },
 ];
 
-#[test]
-fn padded(rt: HostRuntime) -> Result<(), Fail> {
-    hold_made(&rt, rt.alloc(), PADDED)
-}
-
 // Kept values of levels, and columns.
 const COMPACTED: &[Made] = &[
     Made {
@@ -432,11 +427,6 @@ const COMPACTED: &[Made] = &[
         left: &[],
     },
 ];
-
-#[test]
-fn compacted(rt: HostRuntime) -> Result<(), Fail> {
-    hold_made(&rt, rt.alloc(), COMPACTED)
-}
 
 // Loops that are moved, and copies.
 const MOVED: &[Made] = &[
@@ -602,6 +592,9 @@ const MOVED: &[Made] = &[
 ];
 
 #[test]
-fn moved(rt: HostRuntime) -> Result<(), Fail> {
-    hold_made(&rt, rt.alloc(), MOVED)
+fn made_programs(rt: HostRuntime) -> Result<(), Fail> {
+    for cases in [PADDED, COMPACTED, MOVED] {
+        hold_made(&rt, rt.alloc(), cases)?;
+    }
+    Ok(())
 }

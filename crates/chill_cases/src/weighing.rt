@@ -1,9 +1,8 @@
 // Runs that have no value somewhere.
-use crate::running::{Run, hold_runs};
-use std::test::Fail;
+use crate::running::Run;
 
 /// Index expressions and their weights.
-const WEIGHTS: &[Run] = &[
+pub const WEIGHTS: &[Run] = &[
     // A weight of 2^62 passes, and one more has no value, whatever the value would be.
     (
         &["void f(int64_t n, uint64_t y[1]) { if (4611686018427387904*n >= n) y[0] = 1; }"],
@@ -291,13 +290,8 @@ const WEIGHTS: &[Run] = &[
     ),
 ];
 
-#[test]
-fn weights(rt: HostRuntime) -> Result<(), Fail> {
-    hold_runs(&rt, rt.alloc(), "run", WEIGHTS)
-}
-
 /// Arrays that an inspector can't make.
-const GROWTHS: &[Run] = &[
+pub const GROWTHS: &[Run] = &[
     // Growth by a negative number.
     (
         &[
@@ -503,8 +497,3 @@ const GROWTHS: &[Run] = &[
         "chill: inspector 2.1.1: outside c\n",
     ),
 ];
-
-#[test]
-fn growths(rt: HostRuntime) -> Result<(), Fail> {
-    hold_runs(&rt, rt.alloc(), "run", GROWTHS)
-}
