@@ -30,7 +30,7 @@ mod plain_runs;
 #[cfg(test)]
 mod plain_texts;
 #[cfg(test)]
-mod read_back;
+mod reading_back;
 #[cfg(test)]
 mod refused_commands;
 #[cfg(test)]
