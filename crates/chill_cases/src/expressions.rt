@@ -1,6 +1,6 @@
 // Expressions, read from texts with more parentheses than they need and printed with those that they need.
 use crate::harness::joined;
-use crate::read_back::printed;
+use crate::reading_back::printed;
 use crate::texts::PRELUDE;
 use std::alloc::Global;
 use std::process::Abort;

@@ -1,7 +1,7 @@
 // Texts that are large, deep or long.
 use crate::harness::call_on;
 use crate::made_texts::repeated;
-use crate::read_back::printed;
+use crate::reading_back::printed;
 use crate::texts::PRELUDE;
 use chill_base::Text;
 use std::alloc::Global;
