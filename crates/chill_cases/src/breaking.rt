@@ -20,7 +20,7 @@ const SECOND_FAILS: &str = "chill: file 2: read fault\n";
 
 /// A source, data, the call of the files that fails, the status, and the line. Calls 0 to 2 open and read the source
 /// to its end, and calls 3 to 5 the data.
-const BROKEN: &[(&str, &str, u64, u8, &str)] = &[
+const FAILING_CALLS: &[(&str, &str, u64, u8, &str)] = &[
     (SOURCE, DATA, 0, 3, FIRST_FAILS),
     (SOURCE, DATA, 1, 3, FIRST_FAILS),
     (SOURCE, DATA, 2, 3, FIRST_FAILS),
@@ -40,7 +40,7 @@ const BROKEN: &[(&str, &str, u64, u8, &str)] = &[
 fn broken_files(rt: HostRuntime) -> Result<(), Fail> {
     let alloc = rt.alloc();
     for command in ["run", "trace"] {
-        for &(source, data, failing, status, line) in BROKEN {
+        for &(source, data, failing, status, line) in FAILING_CALLS {
             let fails = List::from_slice(alloc, &[failing])?;
             let files = two_files(alloc, source.as_bytes(), data.as_bytes(), fails)?;
             let out = narrow_sink(alloc, 4096, List::new(alloc))?;

@@ -34,7 +34,7 @@ pub struct Made {
 }
 
 // The program that the recipe makes of the source.
-fn made(alloc: Global, recipe: &str, source: &[u8]) -> Result<Text, Fail> {
+fn emitted(alloc: Global, recipe: &str, source: &[u8]) -> Result<Text, Fail> {
     match emit(alloc, recipe.as_bytes(), source) {
         Ok(text) => Ok(text),
         Err(_) => Err(Fail::new("the recipe is refused")),
@@ -175,7 +175,7 @@ pub fn hold_made(rt: &impl Abort, alloc: Global, cases: &[Made]) -> Result<(), F
     for case in cases {
         let source = joined(alloc, case.source)?;
         let data = joined(alloc, case.data)?;
-        let text = made(alloc, case.recipe, source.as_slice())?;
+        let text = emitted(alloc, case.recipe, source.as_slice())?;
         hold_lines(rt, alloc, text.as_slice(), data.as_slice(), case)?;
         hold_out(rt, alloc, text.as_slice(), data.as_slice(), case)?;
         let counting = counting(alloc, str::from_utf8(text.as_slice())?)?;
