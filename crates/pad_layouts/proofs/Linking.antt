@@ -33,7 +33,7 @@ module _ (picks : List (Option ℕ)) (value : List ℕ) (cell : Access) where
   padded_step links ls l whole right new w e g k h =
       let joined : new ≡ applied l.operation whole (padded_body picks value cell l.right.now) = k ∙ ap (applied l.operation whole) g in
       let more : along applied (padded_body picks value cell) links whole ≡ along applied (padded_body picks value cell) ls (applied l.operation whole (padded_body picks value cell l.right.now)) =
-          ap (λ ks. along applied (padded_body picks value cell) ks whole) e ∙ along_more applied (padded_body picks value cell) ls l whole in
+      ap (λ ks. along applied (padded_body picks value cell) ks whole) e ∙ along_more applied (padded_body picks value cell) ls l whole in
       ap (along applied (padded_body picks value cell) ls) joined ∙ (sym more ∙ h)
 
   pub padded_end : (links : List Link) (whole w : Body) → links ≡ [] → padded_along links whole ≡ w → whole ≡ w
