@@ -4,7 +4,7 @@ use crate::texts::PRODUCT;
 use std::test::Fail;
 
 /// Recipes, and the first line that is none of a command, a comment or an empty line.
-const RECIPES: [Refused; 27] = [
+const RECIPES: [Refused; 28] = [
     Refused {
         name: "too few numbers",
         recipe: "tile(0,1)",
@@ -19,6 +19,12 @@ const RECIPES: [Refused; 27] = [
     },
     Refused {
         name: "a command of no kind",
+        recipe: "reverse(0,1)",
+        source: PRODUCT,
+        line: "chill: recipe line 1\n",
+    },
+    Refused {
+        name: "a loop that is turned around",
         recipe: "reverse(0,1)",
         source: PRODUCT,
         line: "chill: recipe line 1\n",

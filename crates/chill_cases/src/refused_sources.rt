@@ -4,7 +4,7 @@ use crate::texts::PRODUCT_HEAD;
 use std::test::Fail;
 
 /// Programs that can be run, and why no recipe is applied to them.
-const SOURCES: [Refused; 18] = [
+const SOURCES: [Refused; 19] = [
     Refused {
         name: "a multiple past the limit",
         recipe: "",
@@ -36,6 +36,14 @@ const SOURCES: [Refused; 18] = [
             "void f(int64_t n, uint64_t y[n]) { for (int64_t i = 0; i < n; i++) if (65536*i < 2147483648 && i < 2147483650) y[i] = 1; }",
         ],
         line: "chill: source: limit: 2147483650 constant\n",
+    },
+    Refused {
+        name: "a least number in a subscript that is read",
+        recipe: "",
+        source: &[
+            "void f(int64_t n, uint64_t x[n], uint64_t y[n]) { for (int64_t i = 0; i < n; i++) y[i] = x[min(i,3)]; }",
+        ],
+        line: "chill: source: statement 0 isn't affine\n",
     },
     Refused {
         name: "a subscript by a least number",

@@ -1,5 +1,6 @@
 // Texts that no rule of the grammar makes.
 use crate::harness::{Refused, refuse};
+use crate::texts::PRODUCT_HEAD;
 use std::test::Fail;
 
 /// Texts around a program, and the first token with which none goes on.
@@ -167,7 +168,7 @@ const SIGNATURES: [Refused; 7] = [
 ];
 
 /// Statements, likewise.
-const STATEMENTS: [Refused; 15] = [
+const STATEMENTS: [Refused; 16] = [
     Refused {
         name: "an empty body",
         recipe: "",
@@ -215,6 +216,20 @@ const STATEMENTS: [Refused; 15] = [
             "void f(int64_t n, uint64_t y[n]) { for (int64_t i = 0; i < n; i++) if (i =< n) y[i] = 1; }",
         ],
         line: "chill: syntax at token 31\n",
+    },
+    Refused {
+        name: "a test by two signs, in a sparse product",
+        recipe: "",
+        source: &[
+            PRODUCT_HEAD,
+            "{
+  for (int64_t i = 0; i < n; i++)
+    for (int64_t k = index[i]; k < index[i+1]; k++)
+      if (i =< n) y[i] = 1;
+}
+",
+        ],
+        line: "chill: syntax at token 101\n",
     },
     Refused {
         name: "a test by a sign of no token",

@@ -38,18 +38,8 @@ const PADDED: &[Made] = &[
 0.1.0.3.0.2.0.3.0 y[2] += b_lay[3][0][1] * x[3]
 ",
         out: &[MATRIX, "y 23 14 44\n"],
-        left: &[
-            ("b_ptr", [3, 1, 1], &[0, 2, 4]),
-            ("b_val", [4, 1, 1], &[0, 1, 0, 1]),
-            ("b_num", [1, 1, 1], &[4]),
-            ("b_mark", [2, 1, 1], &[3, 4]),
-            (
-                "b_lay",
-                [4, 2, 2],
-                &[5, 0, 0, 7, 6, 0, 0, 0, 8, 0, 0, 0, 0, 9, 0, 0],
-            ),
-            ("turns", [1, 1, 1], &[8]),
-        ],
+        reader: "if (b_ptr[0] == 0 && b_ptr[1] == 2 && b_ptr[2] == 4 && b_val[0] == 0 && b_val[1] == 1 && b_val[2] == 0 && b_val[3] == 1 && b_num[0] == 4 && b_mark[0] == 3 && b_mark[1] == 4 && turns[0] == 8) { y[0] = 1; for (int64_t p = 0; p < 4; p++) for (int64_t r = 0; r < 2; r++) for (int64_t c = 0; c < 2; c++) y[0] = y[0]*10 + b_lay[p][r][c]; }",
+        left: &[MATRIX, "y 15007600080000900 0 0\n"],
     },
     Made {
         name: "diagonals",
@@ -67,14 +57,8 @@ const PADDED: &[Made] = &[
 0.3.0.2.0 y[2] += b_lay[3][2] * x[3]
 ",
         out: &[MATRIX, "y 23 14 44\n"],
-        left: &[
-            ("b_ptr", [2, 1, 1], &[0, 4]),
-            ("b_val", [4, 1, 1], &[0, 2, 18446744073709551614, 1]),
-            ("b_num", [1, 1, 1], &[4]),
-            ("b_mark", [6, 1, 1], &[3, 0, 1, 4, 2, 0]),
-            ("b_lay", [4, 3, 1], &[5, 7, 0, 6, 0, 0, 0, 0, 8, 0, 0, 9]),
-            ("turns", [1, 1, 1], &[8]),
-        ],
+        reader: "if (b_ptr[0] == 0 && b_ptr[1] == 4 && b_val[0] == 0 && b_val[1] == 2 && b_val[2] == -2 && b_val[3] == 1 && b_num[0] == 4 && b_mark[0] == 3 && b_mark[1] == 0 && b_mark[2] == 1 && b_mark[3] == 4 && b_mark[4] == 2 && b_mark[5] == 0 && turns[0] == 8) { y[0] = 1; for (int64_t p = 0; p < 4; p++) for (int64_t r = 0; r < 3; r++) y[0] = y[0]*10 + b_lay[p][r]; }",
+        left: &[MATRIX, "y 1570600008009 0 0\n"],
     },
     Made {
         name: "rows of one width",
@@ -89,12 +73,8 @@ const PADDED: &[Made] = &[
 0.2.0.1.0 y[2] += b_lay[2][1] * x[3]
 ",
         out: &[MATRIX, "y 23 14 44\n"],
-        left: &[
-            ("b_wid", [1, 1, 1], &[2]),
-            ("b_lay", [3, 2, 1], &[5, 6, 7, 0, 8, 9]),
-            ("b_lcol", [3, 2, 1], &[0, 2, 1, 0, 0, 3]),
-            ("turns", [1, 1, 1], &[11]),
-        ],
+        reader: "if (b_wid[0] == 2 && b_lcol[0][0] == 0 && b_lcol[0][1] == 2 && b_lcol[1][0] == 1 && b_lcol[1][1] == 0 && b_lcol[2][0] == 0 && b_lcol[2][1] == 3 && turns[0] == 11) { y[0] = 1; for (int64_t p = 0; p < 3; p++) for (int64_t r = 0; r < 2; r++) y[0] = y[0]*10 + b_lay[p][r]; }",
+        left: &[MATRIX, "y 1567089 0 0\n"],
     },
     Made {
         name: "blocks of columns that fall",
@@ -111,14 +91,8 @@ const PADDED: &[Made] = &[
 0.0.0.1.0.1.0.1.0 y[1] += b_lay[1][1][1] * x[1]
 ",
         out: &[FALLING, "y 9 4\n"],
-        left: &[
-            ("b_ptr", [2, 1, 1], &[0, 2]),
-            ("b_val", [2, 1, 1], &[1, 0]),
-            ("b_num", [1, 1, 1], &[2]),
-            ("b_mark", [2, 1, 1], &[2, 1]),
-            ("b_lay", [2, 2, 2], &[3, 0, 0, 0, 0, 0, 4, 0]),
-            ("turns", [1, 1, 1], &[4]),
-        ],
+        reader: "if (b_ptr[0] == 0 && b_ptr[1] == 2 && b_val[0] == 1 && b_val[1] == 0 && b_num[0] == 2 && b_mark[0] == 2 && b_mark[1] == 1 && turns[0] == 4) { y[0] = 1; for (int64_t p = 0; p < 2; p++) for (int64_t r = 0; r < 2; r++) for (int64_t c = 0; c < 2; c++) y[0] = y[0]*10 + b_lay[p][r][c]; }",
+        left: &[FALLING, "y 130000040 0\n"],
     },
 ];
 
@@ -131,14 +105,8 @@ const ROWLESS: &[Made] = &[
         data: &[NO_ROWS, "y\n"],
         lines: "",
         out: &[NO_ROWS, "y\n"],
-        left: &[
-            ("b_ptr", [1, 1, 1], &[0]),
-            ("b_val", [0, 1, 1], &[]),
-            ("b_num", [1, 1, 1], &[0]),
-            ("b_mark", [0, 1, 1], &[]),
-            ("b_lay", [0, 2, 2], &[]),
-            ("turns", [1, 1, 1], &[0]),
-        ],
+        reader: "if (b_ptr[0] == 0 && b_num[0] == 0 && turns[0] == 0) { y[0] = 1; }",
+        left: &["chill: executor 0: outside y\n"],
     },
     Made {
         name: "diagonals of no rows",
@@ -147,14 +115,8 @@ const ROWLESS: &[Made] = &[
         data: &[NO_ROWS, "y\n"],
         lines: "",
         out: &[NO_ROWS, "y\n"],
-        left: &[
-            ("b_ptr", [2, 1, 1], &[0, 0]),
-            ("b_val", [0, 1, 1], &[]),
-            ("b_num", [1, 1, 1], &[0]),
-            ("b_mark", [0, 1, 1], &[]),
-            ("b_lay", [0, 0, 1], &[]),
-            ("turns", [1, 1, 1], &[0]),
-        ],
+        reader: "if (b_ptr[0] == 0 && b_ptr[1] == 0 && b_num[0] == 0 && turns[0] == 0) { y[0] = 1; }",
+        left: &["chill: executor 0: outside y\n"],
     },
     Made {
         name: "rows of no rows",
@@ -163,12 +125,8 @@ const ROWLESS: &[Made] = &[
         data: &[NO_ROWS, "y\n"],
         lines: "",
         out: &[NO_ROWS, "y\n"],
-        left: &[
-            ("b_wid", [1, 1, 1], &[0]),
-            ("b_lay", [0, 0, 1], &[]),
-            ("b_lcol", [0, 0, 1], &[]),
-            ("turns", [1, 1, 1], &[0]),
-        ],
+        reader: "if (b_wid[0] == 0 && turns[0] == 0) { y[0] = 1; }",
+        left: &["chill: executor 0: outside y\n"],
     },
     Made {
         name: "rows, one of which is empty",
@@ -180,12 +138,8 @@ const ROWLESS: &[Made] = &[
 0.2.0.0.0 y[2] += b_lay[2][0] * x[1]
 ",
         out: &[EMPTY_ROW, "y 31 2 83\n"],
-        left: &[
-            ("b_wid", [1, 1, 1], &[1]),
-            ("b_lay", [3, 1, 1], &[3, 0, 4]),
-            ("b_lcol", [3, 1, 1], &[0, 0, 1]),
-            ("turns", [1, 1, 1], &[8]),
-        ],
+        reader: "if (b_wid[0] == 1 && b_lcol[0][0] == 0 && b_lcol[1][0] == 0 && b_lcol[2][0] == 1 && turns[0] == 8) { y[0] = 1; for (int64_t p = 0; p < 3; p++) for (int64_t r = 0; r < 1; r++) y[0] = y[0]*10 + b_lay[p][r]; }",
+        left: &[EMPTY_ROW, "y 1304 2 3\n"],
     },
     Made {
         name: "blocks behind another loop",
@@ -209,16 +163,8 @@ const ROWLESS: &[Made] = &[
 1.1.0.3.0.2.0.3.0 y[2] += b_lay[3][0][1] * x[3]
 ",
         out: &[MATRIX, "y 23 14 44\n"],
-        left: &[
-            ("b_ptr", [3, 1, 1], &[0, 2, 4]),
-            ("b_val", [4, 1, 1], &[0, 1, 0, 1]),
-            (
-                "b_lay",
-                [4, 2, 2],
-                &[5, 0, 0, 7, 6, 0, 0, 0, 8, 0, 0, 0, 0, 9, 0, 0],
-            ),
-            ("turns", [1, 1, 1], &[8]),
-        ],
+        reader: "if (b_ptr[0] == 0 && b_ptr[1] == 2 && b_ptr[2] == 4 && b_val[0] == 0 && b_val[1] == 1 && b_val[2] == 0 && b_val[3] == 1 && turns[0] == 8) { y[0] = 1; for (int64_t p = 0; p < 4; p++) for (int64_t r = 0; r < 2; r++) for (int64_t c = 0; c < 2; c++) y[0] = y[0]*10 + b_lay[p][r][c]; }",
+        left: &[MATRIX, "y 15007600080000900 9 9\n"],
     },
 ];
 
@@ -235,14 +181,8 @@ const REPEATING: &[Made] = &[
 0.0.0.0.0.1.0.1.0 y[1] += b_lay[0][1][1] * x[1]
 ",
         out: &[MADE_OF_TWO, "y 962747 170094\n"],
-        left: &[
-            ("b_ptr", [2, 1, 1], &[0, 1]),
-            ("b_val", [1, 1, 1], &[0]),
-            ("b_num", [1, 1, 1], &[1]),
-            ("b_mark", [1, 1, 1], &[1]),
-            ("b_lay", [1, 2, 2], &[758, 515, 10, 212]),
-            ("turns", [1, 1, 1], &[6]),
-        ],
+        reader: "if (b_ptr[0] == 0 && b_ptr[1] == 1 && b_val[0] == 0 && b_num[0] == 1 && b_mark[0] == 1 && turns[0] == 6) { y[0] = 1; for (int64_t p = 0; p < 1; p++) for (int64_t r = 0; r < 2; r++) for (int64_t c = 0; c < 2; c++) y[0] = y[0]*1000 + b_lay[p][r][c]; }",
+        left: &[MADE_OF_TWO, "y 1758515010212 0\n"],
     },
     Made {
         name: "blocks of the matrix that is made for four rows",
@@ -267,18 +207,8 @@ const REPEATING: &[Made] = &[
 0.1.0.3.0.3.0.3.0 y[3] += b_lay[3][1][1] * x[3]
 ",
         out: &[MADE_OF_FOUR, "y 987153 75712 779826 129649\n"],
-        left: &[
-            ("b_ptr", [3, 1, 1], &[0, 2, 4]),
-            ("b_val", [4, 1, 1], &[0, 1, 0, 1]),
-            ("b_num", [1, 1, 1], &[4]),
-            ("b_mark", [2, 1, 1], &[3, 4]),
-            (
-                "b_lay",
-                [4, 2, 2],
-                &[758, 0, 0, 10, 515, 0, 0, 212, 0, 767, 0, 89, 60, 0, 0, 137],
-            ),
-            ("turns", [1, 1, 1], &[12]),
-        ],
+        reader: "if (b_ptr[0] == 0 && b_ptr[1] == 2 && b_ptr[2] == 4 && b_val[0] == 0 && b_val[1] == 1 && b_val[2] == 0 && b_val[3] == 1 && b_num[0] == 4 && b_mark[0] == 3 && b_mark[1] == 4 && turns[0] == 12) { y[0] = 1; for (int64_t p = 0; p < 4; p++) for (int64_t r = 0; r < 2; r++) for (int64_t c = 0; c < 2; c++) y[0] = y[0]*1000 + b_lay[p][r][c]; }",
+        left: &[MADE_OF_FOUR, "y 4700216262641707145 0 0 0\n"],
     },
     Made {
         name: "blocks of a row in which a column stands twice",
@@ -289,14 +219,8 @@ const REPEATING: &[Made] = &[
 0.0.0.0.0.0.0.1.0 y[0] += b_lay[0][0][1] * x[1]
 ",
         out: &[REPEATED, "y 140\n"],
-        left: &[
-            ("b_ptr", [2, 1, 1], &[0, 1]),
-            ("b_val", [1, 1, 1], &[0]),
-            ("b_num", [1, 1, 1], &[1]),
-            ("b_mark", [1, 1, 1], &[1]),
-            ("b_lay", [1, 2, 2], &[4, 5, 0, 0]),
-            ("turns", [1, 1, 1], &[4]),
-        ],
+        reader: "if (b_ptr[0] == 0 && b_ptr[1] == 1 && b_val[0] == 0 && b_num[0] == 1 && b_mark[0] == 1 && turns[0] == 4) { y[0] = 1; for (int64_t p = 0; p < 1; p++) for (int64_t r = 0; r < 2; r++) for (int64_t c = 0; c < 2; c++) y[0] = y[0]*10 + b_lay[p][r][c]; }",
+        left: &[REPEATED, "y 14500\n"],
     },
     Made {
         name: "diagonals of a row in which a column stands twice",
@@ -307,14 +231,8 @@ const REPEATING: &[Made] = &[
 0.1.0.0.0 y[0] += b_lay[1][0] * x[0]
 ",
         out: &[REPEATED, "y 140\n"],
-        left: &[
-            ("b_ptr", [2, 1, 1], &[0, 2]),
-            ("b_val", [2, 1, 1], &[1, 0]),
-            ("b_num", [1, 1, 1], &[2]),
-            ("b_mark", [2, 1, 1], &[2, 1]),
-            ("b_lay", [2, 1, 1], &[5, 4]),
-            ("turns", [1, 1, 1], &[4]),
-        ],
+        reader: "if (b_ptr[0] == 0 && b_ptr[1] == 2 && b_val[0] == 1 && b_val[1] == 0 && b_num[0] == 2 && b_mark[0] == 2 && b_mark[1] == 1 && turns[0] == 4) { y[0] = 1; for (int64_t p = 0; p < 2; p++) for (int64_t r = 0; r < 1; r++) y[0] = y[0]*10 + b_lay[p][r]; }",
+        left: &[REPEATED, "y 154\n"],
     },
     Made {
         name: "the row in which a column stands twice",
@@ -326,12 +244,8 @@ const REPEATING: &[Made] = &[
 0.0.0.2.0 y[0] += b_lay[0][2] * x[0]
 ",
         out: &[REPEATED, "y 140\n"],
-        left: &[
-            ("b_wid", [1, 1, 1], &[3]),
-            ("b_lay", [1, 3, 1], &[2, 3, 4]),
-            ("b_lcol", [1, 3, 1], &[1, 1, 0]),
-            ("turns", [1, 1, 1], &[5]),
-        ],
+        reader: "if (b_wid[0] == 3 && b_lcol[0][0] == 1 && b_lcol[0][1] == 1 && b_lcol[0][2] == 0 && turns[0] == 5) { y[0] = 1; for (int64_t p = 0; p < 1; p++) for (int64_t r = 0; r < 3; r++) y[0] = y[0]*10 + b_lay[p][r]; }",
+        left: &[REPEATED, "y 1234\n"],
     },
 ];
 
@@ -349,13 +263,8 @@ const COMPACTED: &[Made] = &[
 0.2.0.4.0.4.0 y[2] += a[4] + x[3]
 ",
         out: &[MATRIX, "y 15 9 22\n"],
-        left: &[
-            ("b_ptr", [4, 1, 1], &[0, 2, 3, 5]),
-            ("b_val", [5, 1, 1], &[0, 2, 1, 0, 3]),
-            ("b_num", [1, 1, 1], &[5]),
-            ("b_mark", [4, 1, 1], &[4, 3, 2, 5]),
-            ("turns", [1, 1, 1], &[8]),
-        ],
+        reader: "if (b_ptr[0] == 0 && b_ptr[1] == 2 && b_ptr[2] == 3 && b_ptr[3] == 5 && b_val[0] == 0 && b_val[1] == 2 && b_val[2] == 1 && b_val[3] == 0 && b_val[4] == 3 && b_num[0] == 5 && b_mark[0] == 4 && b_mark[1] == 3 && b_mark[2] == 2 && b_mark[3] == 5 && turns[0] == 8) { y[0] = 1; }",
+        left: &[MATRIX, "y 1 0 0\n"],
     },
     Made {
         name: "kept columns of a row in which one stands twice",
@@ -367,13 +276,8 @@ const COMPACTED: &[Made] = &[
 0.0.0.1.0.2.0 y[0] += a[2] + x[0]
 ",
         out: &[REPEATED, "y 59\n"],
-        left: &[
-            ("b_ptr", [2, 1, 1], &[0, 2]),
-            ("b_val", [2, 1, 1], &[1, 0]),
-            ("b_num", [1, 1, 1], &[2]),
-            ("b_mark", [2, 1, 1], &[2, 1]),
-            ("turns", [1, 1, 1], &[4]),
-        ],
+        reader: "if (b_ptr[0] == 0 && b_ptr[1] == 2 && b_val[0] == 1 && b_val[1] == 0 && b_num[0] == 2 && b_mark[0] == 2 && b_mark[1] == 1 && turns[0] == 4) { y[0] = 1; }",
+        left: &[REPEATED, "y 1\n"],
     },
     Made {
         name: "kept columns of the matrix",
@@ -387,13 +291,8 @@ const COMPACTED: &[Made] = &[
 0.3.0.2.0.4.0 y[2] += a[4] * x[3]
 ",
         out: &[MATRIX, "y 23 14 44\n"],
-        left: &[
-            ("b_ptr", [2, 1, 1], &[0, 4]),
-            ("b_val", [4, 1, 1], &[0, 2, 1, 3]),
-            ("b_num", [1, 1, 1], &[4]),
-            ("b_mark", [4, 1, 1], &[1, 3, 2, 4]),
-            ("turns", [1, 1, 1], &[8]),
-        ],
+        reader: "if (b_ptr[0] == 0 && b_ptr[1] == 4 && b_val[0] == 0 && b_val[1] == 2 && b_val[2] == 1 && b_val[3] == 3 && b_num[0] == 4 && b_mark[0] == 1 && b_mark[1] == 3 && b_mark[2] == 2 && b_mark[3] == 4 && turns[0] == 8) { y[0] = 1; }",
+        left: &[MATRIX, "y 1 0 0\n"],
     },
     Made {
         name: "kept columns of no rows",
@@ -402,13 +301,8 @@ const COMPACTED: &[Made] = &[
         data: &[NO_ROWS, "y\n"],
         lines: "",
         out: &[NO_ROWS, "y\n"],
-        left: &[
-            ("b_ptr", [1, 1, 1], &[0]),
-            ("b_val", [0, 1, 1], &[]),
-            ("b_num", [1, 1, 1], &[0]),
-            ("b_mark", [0, 1, 1], &[]),
-            ("turns", [1, 1, 1], &[0]),
-        ],
+        reader: "if (b_ptr[0] == 0 && b_num[0] == 0 && turns[0] == 0) { y[0] = 1; }",
+        left: &["chill: executor 0: outside y\n"],
     },
     Made {
         name: "a column level with a guard",
@@ -420,6 +314,7 @@ const COMPACTED: &[Made] = &[
 0.0.0.1.0.1.0 y[0] += a[1] * x[1]
 ",
         out: &[REPEATED, "y 140\n"],
+        reader: "",
         left: &[],
     },
     Made {
@@ -432,6 +327,7 @@ const COMPACTED: &[Made] = &[
 0.0.0.2.0 y[0] += a[2] * x[0]
 ",
         out: &[REPEATED, "y 140\n"],
+        reader: "",
         left: &[],
     },
 ];
@@ -449,6 +345,7 @@ const MOVED: &[Made] = &[
 0.3.0.2.0 b[2][1] = b[1][2]
 ",
         out: &["n 3\nm 3\nb 1 2 3 2 3 6 3 6 9\n"],
+        reader: "",
         left: &[],
     },
     Made {
@@ -463,6 +360,7 @@ const MOVED: &[Made] = &[
 0.1.0.1.0 b[1][1] = c[1]
 ",
         out: &["n 2\nb 5 6 0 6\nc 5 6\n"],
+        reader: "",
         left: &[],
     },
     Made {
@@ -478,6 +376,7 @@ const MOVED: &[Made] = &[
 0.1.1 d[1] = b[1]
 ",
         out: &["n 2\nb 1 2 7\nc 1 2\nd 1 2\n"],
+        reader: "",
         left: &[],
     },
     Made {
@@ -492,6 +391,7 @@ const MOVED: &[Made] = &[
 0.1.1 d[1] = 2
 ",
         out: &["n 1\nm 2\nb 1\nd 2 2\n"],
+        reader: "",
         left: &[],
     },
     Made {
@@ -507,6 +407,7 @@ const MOVED: &[Made] = &[
 1.1.0 d[1] = b[1]
 ",
         out: &["n 2\nb 1 2\nc 1 2\nd 1 2\n"],
+        reader: "",
         left: &[],
     },
     Made {
@@ -526,6 +427,7 @@ const MOVED: &[Made] = &[
 1.2.0.1.0 b[9] = c[9]
 ",
         out: &["n 0\nb 1 2 3 4 5 6 7 8 9 10\nc 1 2 3 4 5 6 7 8 9 10\n"],
+        reader: "",
         left: &[],
     },
     Made {
@@ -537,6 +439,7 @@ const MOVED: &[Made] = &[
 0.6.0 b[1] = c[1]
 ",
         out: &["n 2\nb 8 9\nc 8 9\n"],
+        reader: "",
         left: &[],
     },
     Made {
@@ -549,6 +452,7 @@ const MOVED: &[Made] = &[
 0.1.0.2.0 b[2] = c[2]
 ",
         out: &["n 3\nb 7 8 9\nc 7 8 9\n"],
+        reader: "",
         left: &[],
     },
     Made {
@@ -574,10 +478,8 @@ const MOVED: &[Made] = &[
 1.7.0 d[7] = e[7]
 ",
         out: &["n 1\nc 1 2 3 4 5 6 7 8\nd 1 2 3 4 5 6 7 8\n"],
-        left: &[
-            ("e", [8, 1, 1], &[0, 0, 0, 0, 0, 0, 0, 0]),
-            ("turns", [1, 1, 1], &[0]),
-        ],
+        reader: "if (turns[0] == 0) { d[0] = 1; for (int64_t p = 0; p < 8; p++) d[0] = d[0]*10 + e[p]; }",
+        left: &["n 1\nc 1 2 3 4 5 6 7 8\nd 100000000 0 0 0 0 0 0 0\n"],
     },
     Made {
         name: "a copy of a cell in a tiled loop",
@@ -595,7 +497,8 @@ const MOVED: &[Made] = &[
 0.1.1.4.0 d[4] = e[0]
 ",
         out: &["n 5\nd 3 3 3 3 3\nx 3\n"],
-        left: &[("e", [1, 1, 1], &[0]), ("turns", [1, 1, 1], &[0])],
+        reader: "if (turns[0] == 0) { d[0] = 1; for (int64_t p = 0; p < 1; p++) d[0] = d[0]*10 + e[p]; }",
+        left: &["n 5\nd 10 0 0 0 0\nx 3\n"],
     },
 ];
 
