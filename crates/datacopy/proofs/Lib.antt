@@ -1,4 +1,6 @@
 pub mod Reading
+pub mod Linking
+pub mod Backwards
 pub mod Widths
 pub mod Searching
 pub mod Placed

@@ -38,10 +38,6 @@ both true true e = (refl, refl)
 both true false e = absurd cc
 both false y e = absurd cc
 
--- a test of all reads of two right sides
-pub all-parts : (p : Access → Bool) (all xs ys : List Access) → all ≡ xs ++ ys → IsTrue (list_all p all) → IsTrue (list_all p xs) × IsTrue (list_all p ys)
-all-parts p all xs ys e h = both _ _ (sym (list_all-append p xs ys) ∙ sym (ap (list_all p) e) ∙ h)
-
 -- the reads of a right side are over as many variables as it
 module _ (n : ℕ) (array : List ℕ) where
   AreOver : Body → Type 0

@@ -1,6 +1,7 @@
 // The right side that reads the copy.
 ghost use Rattle.std.specs.Prelude.{◌≡◌, length, IsTrue, IfOk};
 ghost use Rattle.std.specs.List.{list_all};
+ghost use Rattle.nest_core.specs.Chains.{leaf_body};
 ghost use Rattle.nest_core.specs.Forms.{has_vars};
 ghost use Rattle.nest_core.specs.Shapes.{is_access_over, is_body_over};
 ghost use Rattle.datacopy.specs.Boxes.{is_side_over, has_subscripts};
@@ -10,8 +11,9 @@ use crate::reads::is_name;
 use crate::rows::judged;
 use crate::side::Side;
 use crate::sums::difference;
-use chill_base::{Boxed, List, Name, Stop};
+use chill_base::{List, Name, Stop};
 use int_rows::{Aff, Excess};
+use nest_core::{Chain, Leaf, chain_of, join};
 use nest_systems::copy_forms;
 use nest_tree::{Access, Body};
 use std::alloc::Global;
@@ -76,8 +78,27 @@ fn redirected(
     })
 }
 
+/// A number as it is, and a cell redirected.
+fn redirect_leaf(
+    alloc: Global,
+    array: Name,
+    copy: Name,
+    sides: &[Side],
+    leaf: Leaf<'_>,
+    vars: usize,
+) -> Result<Body, Stop<Excess>>
+    requires width { IsTrue (is_body_over vars (leaf_body leaf)) }
+    requires sides { IsTrue (list_all (is_side_over vars) sides.now) }
+    requires dims { IsTrue (list_all (has_subscripts (length sides.now)) (spec.reads_of array (leaf_body leaf))) }
+    ensures { IfOk result (λ b. IsTrue (is_body_over vars b)) }
+{
+    match leaf {
+        Leaf::Number(n) => Ok(Body::Const(n)),
+        Leaf::Cell(access) => Ok(Body::At(redirected(alloc, array, copy, sides, access, vars)?)),
+    }
+}
+
 /// The right side with the reads of the array replaced by reads of the copy.
-#[cycle(redirect)]
 pub fn redirect(
     alloc: Global,
     array: Name,
@@ -91,44 +112,11 @@ pub fn redirect(
     requires dims { IsTrue (list_all (has_subscripts (length sides.now)) (spec.reads_of array body.now)) }
     ensures { IfOk result (λ b. IsTrue (is_body_over vars b)) }
 {
-    match body {
-        Body::Const(n) => Ok(Body::Const(*n)),
-        Body::At(access) => Ok(Body::At(redirected(alloc, array, copy, sides, access, vars)?)),
-        Body::Plus(a, b) => {
-            let (x, y) = redirect_two(alloc, array, copy, sides, a.get(), b.get(), vars)?;
-            Ok(Body::Plus(x, y))
-        }
-        Body::Minus(a, b) => {
-            let (x, y) = redirect_two(alloc, array, copy, sides, a.get(), b.get(), vars)?;
-            Ok(Body::Minus(x, y))
-        }
-        Body::Times(a, b) => {
-            let (x, y) = redirect_two(alloc, array, copy, sides, a.get(), b.get(), vars)?;
-            Ok(Body::Times(x, y))
-        }
+    let Chain { first, mut links } = chain_of(alloc, body)?;
+    let mut whole = redirect_leaf(alloc, array, copy, sides, first, vars)?;
+    while let Some(link) = links.pop() {
+        let right = redirect(alloc, array, copy, sides, link.right, vars)?;
+        whole = join(alloc, link.operation, whole, right)?;
     }
-}
-
-/// Two right sides, the first one first.
-#[cycle(redirect)]
-fn redirect_two(
-    alloc: Global,
-    array: Name,
-    copy: Name,
-    sides: &[Side],
-    a: &Body,
-    b: &Body,
-    vars: usize,
-) -> Result<(Boxed<Body>, Boxed<Body>), Stop<Excess>>
-    requires first { IsTrue (is_body_over vars a.now) }
-    requires second { IsTrue (is_body_over vars b.now) }
-    requires sides { IsTrue (list_all (is_side_over vars) sides.now) }
-    requires first_dims { IsTrue (list_all (has_subscripts (length sides.now)) (spec.reads_of array a.now)) }
-    requires second_dims { IsTrue (list_all (has_subscripts (length sides.now)) (spec.reads_of array b.now)) }
-    ensures first { IfOk result (λ p. IsTrue (is_body_over vars p.0)) }
-    ensures second { IfOk result (λ p. IsTrue (is_body_over vars p.1)) }
-{
-    let x = redirect(alloc, array, copy, sides, a, vars)?;
-    let y = redirect(alloc, array, copy, sides, b, vars)?;
-    Ok((Boxed::new(alloc, x)?, Boxed::new(alloc, y)?))
+    Ok(whole)
 }

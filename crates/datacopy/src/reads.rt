@@ -1,34 +1,11 @@
 // The reads of an array in a right side.
-ghost use Rattle.std.specs.Prelude.{◌≡◌, ◌++◌, IfOk, bytes_eq};
+ghost use Rattle.std.specs.Prelude.{◌≡◌, ◌++◌, reverse, IfOk, OnOk, bytes_eq};
 ghost use Rattle.datacopy.specs.Reads as spec;
 
 use chill_base::{List, Name, NoMemory};
 use nest_tree::{Access, Body};
 use one_statement::copy_access;
 use std::alloc::Global;
-
-/// The reads of the array, from the left.
-#[cycle(reads)]
-pub fn reads_of(alloc: Global, array: Name, body: &Body) -> Result<List<Access>, NoMemory>
-    ensures { IfOk result (λ reads. reads ≡ spec.reads_of array body.now) }
-{
-    match body {
-        Body::Const(_) => Ok(List::new(alloc)),
-        Body::At(access) => read_of(alloc, array, access),
-        Body::Plus(a, b) => reads_of_two(alloc, array, a.get(), b.get()),
-        Body::Minus(a, b) => reads_of_two(alloc, array, a.get(), b.get()),
-        Body::Times(a, b) => reads_of_two(alloc, array, a.get(), b.get()),
-    }
-}
-
-#[cycle(reads)]
-fn reads_of_two(alloc: Global, array: Name, a: &Body, b: &Body) -> Result<List<Access>, NoMemory>
-    ensures { IfOk result (λ reads. reads ≡ spec.reads_of array a.now ++ spec.reads_of array b.now) }
-{
-    let mut reads = reads_of(alloc, array, a)?;
-    reads.append(reads_of(alloc, array, b)?)?;
-    Ok(reads)
-}
 
 /// Whether the name is this one.
 pub fn is_name(name: Name, other: Name) -> bool
@@ -37,13 +14,60 @@ pub fn is_name(name: Name, other: Name) -> bool
     name.bytes() == other.bytes()
 }
 
-/// The cell, where it is one of the array.
-fn read_of(alloc: Global, array: Name, access: &Access) -> Result<List<Access>, NoMemory>
-    ensures { IfOk result (λ reads. reads ≡ spec.read_of array access.now) }
+/// Appends a copy of the cell, where it is one of the array.
+fn push_read(
+    alloc: Global,
+    array: Name,
+    reads: &mut Vec<Access>,
+    access: &Access,
+) -> Result<(), NoMemory>
+    ensures { OnOk result (reads.new.items ≡ reads.old.items ++ spec.read_of array access.now) }
 {
-    let mut reads = List::new(alloc);
     if is_name(access.array, array) {
         reads.push(copy_access(alloc, access)?)?;
     }
-    Ok(reads)
+    Ok(())
+}
+
+/// Appends copies of the reads of the array, the last one first.
+fn push_reads_back(
+    alloc: Global,
+    array: Name,
+    reads: &mut Vec<Access>,
+    body: &Body,
+) -> Result<(), NoMemory>
+    ensures { OnOk result (reads.new.items ≡ reads.old.items ++ reverse (spec.reads_of array body.now)) }
+{
+    let mut rest = body;
+    loop {
+        match rest {
+            Body::Const(_) => return Ok(()),
+            Body::At(access) => {
+                push_read(alloc, array, reads, access)?;
+                return Ok(());
+            }
+            Body::Plus(left, right) => {
+                push_reads_back(alloc, array, reads, right.get())?;
+                rest = left.get();
+            }
+            Body::Minus(left, right) => {
+                push_reads_back(alloc, array, reads, right.get())?;
+                rest = left.get();
+            }
+            Body::Times(left, right) => {
+                push_reads_back(alloc, array, reads, right.get())?;
+                rest = left.get();
+            }
+        }
+    }
+}
+
+/// The reads of the array, from the left.
+pub fn reads_of(alloc: Global, array: Name, body: &Body) -> Result<List<Access>, NoMemory>
+    ensures { IfOk result (λ reads. reads ≡ spec.reads_of array body.now) }
+{
+    let mut reads = Vec::new(alloc);
+    push_reads_back(alloc, array, &mut reads, body)?;
+    reads.reverse();
+    Ok(List::from_vec(reads))
 }

@@ -1,6 +1,7 @@
 // Assignments and the tests around them.
 ghost use Rattle.std.specs.Prelude.{◌≡◌, ◌+◌, ◌<◌, ◌≤◌, length, IsTrue, IfOk, OnOk};
 ghost use Rattle.std.specs.List.{list_all};
+ghost use Rattle.nest_core.specs.Chains.{leaf_body};
 ghost use Rattle.nest_core.specs.Shapes.{IsShaped, IsShapedNest, is_access_over, is_body_over, vars_of};
 ghost use Rattle.scan_forms.specs.Reads.{term_has_places};
 ghost use Rattle.loop_scan.specs.Choices as choices;
@@ -11,6 +12,7 @@ use crate::nests::nest_at;
 use crate::part::{Part, origin_of, place_forms};
 use c_tree::{Cell, Expr, Stmt, Test};
 use chill_base::{Boxed, List, Name, NoMemory, Stop};
+use nest_core::{Chain, Leaf, Operation, chain_of};
 use nest_tree::{Access, Body, Kernel, Nest};
 use scan_forms::{
     Affine, Claim, Origin, ScanFault, Sizes, Table, Writer, push_claims, write_subscripts,
@@ -102,46 +104,40 @@ fn write_access(c: Cells<'_>, table: &mut Table, access: &Access) -> Result<Cell
     write_cell(c, table, access.array, forms.as_slice())
 }
 
-#[cycle(body)]
+fn write_leaf(c: Cells<'_>, table: &mut Table, leaf: Leaf<'_>) -> Result<Expr, Stop<ScanFault>>
+    requires terms { IsTrue (list_all term_has_places c.origin.terms.now) }
+    requires further { IsTrue (list_all term_has_places c.origin.further.now) }
+    requires leaf { IsTrue (is_body_over (c.origin.params + c.origin.levels + length c.origin.terms.now) (leaf_body leaf)) }
+{
+    match leaf {
+        Leaf::Number(number) => Ok(Expr::Const(number)),
+        Leaf::Cell(access) => Ok(Expr::At(write_access(c, table, access)?)),
+    }
+}
+
+fn joined(alloc: Global, operation: Operation, left: Expr, right: Expr) -> Result<Expr, NoMemory> {
+    let a = Boxed::new(alloc, left)?;
+    let b = Boxed::new(alloc, right)?;
+    match operation {
+        Operation::Plus => Ok(Expr::Plus(a, b)),
+        Operation::Minus => Ok(Expr::Minus(a, b)),
+        Operation::Times => Ok(Expr::Times(a, b)),
+    }
+}
+
+/// The right side, from the left.
 fn write_body(c: Cells<'_>, table: &mut Table, body: &Body) -> Result<Expr, Stop<ScanFault>>
     requires terms { IsTrue (list_all term_has_places c.origin.terms.now) }
     requires further { IsTrue (list_all term_has_places c.origin.further.now) }
     requires body { IsTrue (is_body_over (c.origin.params + c.origin.levels + length c.origin.terms.now) body.now) }
 {
-    match body {
-        Body::Const(number) => Ok(Expr::Const(*number)),
-        Body::At(access) => Ok(Expr::At(write_access(c, table, access)?)),
-        Body::Plus(a, b) => {
-            let (x, y) = write_two(c, table, a.get(), b.get())?;
-            Ok(Expr::Plus(x, y))
-        }
-        Body::Minus(a, b) => {
-            let (x, y) = write_two(c, table, a.get(), b.get())?;
-            Ok(Expr::Minus(x, y))
-        }
-        Body::Times(a, b) => {
-            let (x, y) = write_two(c, table, a.get(), b.get())?;
-            Ok(Expr::Times(x, y))
-        }
+    let Chain { first, mut links } = chain_of(c.alloc, body)?;
+    let mut whole = write_leaf(c, table, first)?;
+    while let Some(link) = links.pop() {
+        let right = write_body(c, table, link.right)?;
+        whole = joined(c.alloc, link.operation, whole, right)?;
     }
-}
-
-/// Two right sides, the first one first.
-#[cycle(body)]
-fn write_two(
-    c: Cells<'_>,
-    table: &mut Table,
-    a: &Body,
-    b: &Body,
-) -> Result<(Boxed<Expr>, Boxed<Expr>), Stop<ScanFault>>
-    requires terms { IsTrue (list_all term_has_places c.origin.terms.now) }
-    requires further { IsTrue (list_all term_has_places c.origin.further.now) }
-    requires first { IsTrue (is_body_over (c.origin.params + c.origin.levels + length c.origin.terms.now) a.now) }
-    requires second { IsTrue (is_body_over (c.origin.params + c.origin.levels + length c.origin.terms.now) b.now) }
-{
-    let x = write_body(c, table, a)?;
-    let y = write_body(c, table, b)?;
-    Ok((Boxed::new(c.alloc, x)?, Boxed::new(c.alloc, y)?))
+    Ok(whole)
 }
 
 /// The assignment itself.

@@ -13,3 +13,5 @@ pub mod BodiesKept
 pub mod Ordered
 pub mod Shaped
 pub mod Naming
+pub mod Chains
+pub mod Along

@@ -1,5 +1,5 @@
 -- The step of the walk into a form's terms.
-use Rattle.std.proofs.Common.{◌≡◌, ℕ, zero, suc, arith, ◌-◌, Bool, true, false, ◌||◌, List, refl, sym, ◌∙◌}
+use Rattle.std.proofs.Common.{◌≡◌, ℕ, zero, suc, arith, ◌-◌, false, List, refl}
 use Rattle.int_rows.specs.declared.row.Aff.{Aff}
 use Rattle.nest_tree.specs.declared.kernel.Term.{Term}
 use Rattle.nest_core.specs.Terms.{held, names, names_inside}

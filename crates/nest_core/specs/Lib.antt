@@ -5,3 +5,4 @@ pub mod Order
 pub mod Pieces
 pub mod Shapes
 pub mod Terms
+pub mod Chains

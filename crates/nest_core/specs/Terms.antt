@@ -1,10 +1,9 @@
 -- The variables that forms name, also inside the arguments of their terms.
-use Rattle.std.specs.Prelude.{ℕ, zero, suc, ◌+◌, Bool, true, false, not, ◌&&◌, ◌||◌, List, [], ◌∷◌, length, ℤ, pos, slice_index_or}
+use Rattle.std.specs.Prelude.{ℕ, zero, suc, Bool, false, not, ◌&&◌, ◌||◌, List, [], ◌∷◌, ℤ, pos, slice_index_or}
 use Rattle.std.specs.Ordering.{int_eq}
 use Rattle.std.specs.List.{list_any}
 use Rattle.int_rows.specs.declared.row.Aff.{Aff}
 use Rattle.nest_tree.specs.declared.kernel.Term.{Term}
-use Rattle.nest_tree.specs.declared.kernel.Nest.{Nest}
 
 -- the variable has a coefficient other than 0
 unfoldable pub held : List ℤ → ℕ → Bool

@@ -2,6 +2,7 @@
 #![tactic(auto)]
 
 mod apply;
+mod chain;
 mod form;
 mod numbers;
 mod order;
@@ -10,6 +11,7 @@ mod terms;
 mod total;
 
 pub use apply::{apply_pieces, make_nest, make_nests, statements};
+pub use chain::{Chain, Leaf, Link, Operation, chain_of, join};
 pub use form::{Frame, judge_form};
 pub use numbers::{LIMIT, is_small, product};
 pub use order::{number, shared_loops, shares_loop};

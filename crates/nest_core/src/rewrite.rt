@@ -2,13 +2,15 @@
 ghost use Rattle.std.specs.Prelude.{◌≡◌, ◌+◌, ◌≤◌, ◌<◌, ◌^◌, suc, pos, cond, length, IfOk, IsTrue, OnOk};
 ghost use Rattle.std.specs.Ordering.{int_eq};
 ghost use Rattle.std.specs.List.{list_all};
+ghost use Rattle.nest_core.specs.Chains.{leaf_body};
 ghost use Rattle.nest_core.specs.Making.{Gives, each_made, pair_made, both_lists};
 ghost use Rattle.nest_core.specs.Forms.{rewritten, judged_form, old_vars, new_vars, has_vars};
 ghost use Rattle.nest_core.specs.Pieces.{access_made, body_made, last_held, own_made, row_made, row_judged, kept, term_made};
 ghost use Rattle.nest_core.specs.Shapes.{is_access_over, is_body_over, is_row_over, is_term_over};
 
+use crate::chain::{Chain, Leaf, chain_of, join};
 use crate::form::{Frame, judge_form, rewrite};
-use chill_base::{Boxed, List, Stop};
+use chill_base::{List, Stop};
 use int_rows::{Aff, Excess, Row};
 use nest_tree::{Access, Body, KernelRow, Nest, Piece, Term};
 use std::alloc::Global;
@@ -49,8 +51,24 @@ pub fn rewrite_access(
     })
 }
 
+/// A number as it is, and a cell with its subscripts rewritten.
+fn rewrite_leaf(
+    alloc: Global,
+    frame: Frame,
+    old: &[Aff],
+    leaf: Leaf<'_>,
+) -> Result<Body, Stop<Excess>>
+    requires counts { length old.now ≡ frame.levels }
+    requires width { IsTrue (is_body_over (old_vars frame) (leaf_body leaf)) }
+    ensures { Gives result (body_made (rewritten frame old.now) (leaf_body leaf.entry)) }
+{
+    match leaf {
+        Leaf::Number(n) => Ok(Body::Const(n)),
+        Leaf::Cell(access) => Ok(Body::At(rewrite_access(alloc, frame, old, access)?)),
+    }
+}
+
 /// The right side with the subscripts of its cells rewritten.
-#[cycle(body)]
 pub fn rewrite_body(
     alloc: Global,
     frame: Frame,
@@ -61,41 +79,13 @@ pub fn rewrite_body(
     requires width { IsTrue (is_body_over (old_vars frame) body.now) }
     ensures { Gives result (body_made (rewritten frame old.now) body.now) }
 {
-    match body {
-        Body::Const(n) => Ok(Body::Const(*n)),
-        Body::At(access) => Ok(Body::At(rewrite_access(alloc, frame, old, access)?)),
-        Body::Plus(a, b) => {
-            let (x, y) = rewrite_two(alloc, frame, old, a.get(), b.get())?;
-            Ok(Body::Plus(x, y))
-        }
-        Body::Minus(a, b) => {
-            let (x, y) = rewrite_two(alloc, frame, old, a.get(), b.get())?;
-            Ok(Body::Minus(x, y))
-        }
-        Body::Times(a, b) => {
-            let (x, y) = rewrite_two(alloc, frame, old, a.get(), b.get())?;
-            Ok(Body::Times(x, y))
-        }
+    let Chain { first, mut links } = chain_of(alloc, body)?;
+    let mut whole = rewrite_leaf(alloc, frame, old, first)?;
+    while let Some(link) = links.pop() {
+        let right = rewrite_body(alloc, frame, old, link.right)?;
+        whole = join(alloc, link.operation, whole, right)?;
     }
-}
-
-/// Two right sides, the first one first.
-#[cycle(body)]
-fn rewrite_two(
-    alloc: Global,
-    frame: Frame,
-    old: &[Aff],
-    a: &Body,
-    b: &Body,
-) -> Result<(Boxed<Body>, Boxed<Body>), Stop<Excess>>
-    requires counts { length old.now ≡ frame.levels }
-    requires first { IsTrue (is_body_over (old_vars frame) a.now) }
-    requires second { IsTrue (is_body_over (old_vars frame) b.now) }
-    ensures { Gives result (pair_made (body_made (rewritten frame old.now) a.now) (body_made (rewritten frame old.now) b.now)) }
-{
-    let x = rewrite_body(alloc, frame, old, a)?;
-    let y = rewrite_body(alloc, frame, old, b)?;
-    Ok((Boxed::new(alloc, x)?, Boxed::new(alloc, y)?))
+    Ok(whole)
 }
 
 /// The next place where the number isn't 0, and otherwise the one found before.

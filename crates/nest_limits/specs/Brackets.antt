@@ -1,5 +1,5 @@
 -- How many round and square brackets stand around one place of an expression of a kernel, as it is printed.
-use Rattle.std.specs.Prelude.{ℕ, zero, suc, ◌+◌, Bool, true, false, cond, not, ◌&&◌, ◌||◌, List, [], ◌∷◌, length, ℤ}
+use Rattle.std.specs.Prelude.{ℕ, zero, suc, ◌+◌, Bool, true, false, cond, not, ◌&&◌, ◌||◌, List, [], ◌∷◌, length, ℤ, Option, Some, None}
 use Rattle.std.specs.List.{list_all}
 use Rattle.int_rows.specs.declared.row.Aff.{Aff}
 use Rattle.nest_tree.specs.declared.body.Access.{Access}
@@ -55,13 +55,26 @@ is_atom Product = false
 abbrev pub part : Bool → (ℕ → Bool) → ℕ → Bool
 part inside fits room = cond inside (bracketed fits room) (fits room)
 
--- in a sum, a sum on the right stands in brackets
-abbrev pub sum_fits : Printed → Printed → ℕ → Bool
-sum_fits a b room = a.fits room && part (is_sum b.level) b.fits room
+-- the right part of a sum: a sum stands in brackets
+abbrev pub summand_fits : Printed → ℕ → Bool
+summand_fits p = part (is_sum p.level) p.fits
 
--- in a product, sums stand in brackets, and a product on the right
+-- the right part of a product: all but a number or a cell stands in brackets
+abbrev pub factor_fits : Printed → ℕ → Bool
+factor_fits p = part (not (is_atom p.level)) p.fits
+
+-- what is left for a left part, in brackets or not
+abbrev pub left_room : Bool → ℕ → Option ℕ
+left_room false room = Some room
+left_room true zero = None
+left_room true (suc room) = Some room
+
+abbrev pub sum_fits : Printed → Printed → ℕ → Bool
+sum_fits a b room = a.fits room && summand_fits b room
+
+-- the left part of a product: a sum stands in brackets
 abbrev pub product_fits : Printed → Printed → ℕ → Bool
-product_fits a b room = part (is_sum a.level) a.fits room && part (not (is_atom b.level)) b.fits room
+product_fits a b room = part (is_sum a.level) a.fits room && factor_fits b room
 
 abbrev pub printed_layer : ℕ → List Term → Body-F Printed → Printed
 printed_layer first terms (Const-F c) = record { level = Atom; fits = λ room. true }

@@ -3,7 +3,7 @@ ghost use Rattle.std.specs.Prelude.{◌≡◌, ◌+◌, ℕ, List, length, IsTru
 ghost use Rattle.std.specs.List.{list_all};
 ghost use Rattle.nest_tree.specs.declared.kernel.Term.{Term};
 ghost use Rattle.nest_core.specs.Shapes.{is_access_over, is_body_over, is_term_over};
-ghost use Rattle.nest_limits.specs.Brackets.{access_fits, is_sum, is_atom, printed, part, sum_fits, product_fits};
+ghost use Rattle.nest_limits.specs.Brackets.{access_fits, is_sum, is_atom, printed, part, left_room, summand_fits, factor_fits};
 
 use crate::form::forms_fit;
 use nest_tree::{Access, Body, Term};
@@ -67,36 +67,69 @@ pub fn body_fits(first: usize, terms: &[Term], room: usize, body: &Body) -> bool
     requires terms { IsTrue (list_all (is_term_over (first + length terms.now)) terms.now) }
     ensures { result ≡ (printed first terms.now body.now).fits room }
 {
-    match body {
-        Body::Const(_) => true,
-        Body::At(access) => access_fits(first, terms, room, access),
-        Body::Plus(a, b) => sum_fits(first, terms, room, a.get(), b.get()),
-        Body::Minus(a, b) => sum_fits(first, terms, room, a.get(), b.get()),
-        Body::Times(a, b) => product_fits(first, terms, room, a.get(), b.get()),
+    let mut inside = room;
+    let mut rest = body;
+    loop {
+        match rest {
+            Body::Const(_) => return true,
+            Body::At(access) => return access_fits(first, terms, inside, access),
+            Body::Plus(a, b) => {
+                if !summand_fits(first, terms, inside, b.get()) {
+                    return false;
+                }
+                rest = a.get();
+            }
+            Body::Minus(a, b) => {
+                if !summand_fits(first, terms, inside, b.get()) {
+                    return false;
+                }
+                rest = a.get();
+            }
+            Body::Times(a, b) => {
+                if !factor_fits(first, terms, inside, b.get()) {
+                    return false;
+                }
+                let Some(left) = room_of_left(inside, a.get()) else {
+                    return false;
+                };
+                inside = left;
+                rest = a.get();
+            }
+        }
     }
 }
 
-/// A sum: a sum on its right stands in brackets.
+/// The right part of a sum: a sum there stands in brackets.
 #[cycle(bodies)]
-fn sum_fits(first: usize, terms: &[Term], room: usize, a: &Body, b: &Body) -> bool
-    requires first { IsTrue (is_body_over (first + length terms.now) a.now) }
-    requires second { IsTrue (is_body_over (first + length terms.now) b.now) }
+fn summand_fits(first: usize, terms: &[Term], room: usize, body: &Body) -> bool
+    requires width { IsTrue (is_body_over (first + length terms.now) body.now) }
     requires terms { IsTrue (list_all (is_term_over (first + length terms.now)) terms.now) }
-    ensures { result ≡ sum_fits (printed first terms.now a.now) (printed first terms.now b.now) room }
+    ensures { result ≡ summand_fits (printed first terms.now body.now) room }
 {
-    body_fits(first, terms, room, a) && part_fits(first, terms, room, is_sum(level_of(b)), b)
+    part_fits(first, terms, room, is_sum(level_of(body)), body)
 }
 
-/// A product: sums stand in brackets, and a product on its right.
+/// The right part of a product: all but a number or a cell stands there in brackets.
 #[cycle(bodies)]
-fn product_fits(first: usize, terms: &[Term], room: usize, a: &Body, b: &Body) -> bool
-    requires first { IsTrue (is_body_over (first + length terms.now) a.now) }
-    requires second { IsTrue (is_body_over (first + length terms.now) b.now) }
+fn factor_fits(first: usize, terms: &[Term], room: usize, body: &Body) -> bool
+    requires width { IsTrue (is_body_over (first + length terms.now) body.now) }
     requires terms { IsTrue (list_all (is_term_over (first + length terms.now)) terms.now) }
-    ensures { result ≡ product_fits (printed first terms.now a.now) (printed first terms.now b.now) room }
+    ensures { result ≡ factor_fits (printed first terms.now body.now) room }
 {
-    part_fits(first, terms, room, is_sum(level_of(a)), a)
-        && part_fits(first, terms, room, !is_atom(level_of(b)), b)
+    part_fits(first, terms, room, !is_atom(level_of(body)), body)
+}
+
+/// The brackets that are left for the left part of a product: a sum stands there in brackets.
+fn room_of_left(room: usize, left: &Body) -> Option<usize>
+    ensures { (first : ℕ) (terms : List Term) → result ≡ left_room (is_sum (printed first terms left.now).level) room }
+{
+    if !is_sum(level_of(left)) {
+        Some(room)
+    } else if room == 0 {
+        None
+    } else {
+        Some(room - 1)
+    }
 }
 
 /// A part, which stands in brackets or not.

@@ -1,3 +1,4 @@
 pub mod Replaced
 pub mod Naming
 pub mod Putting
+pub mod Linking

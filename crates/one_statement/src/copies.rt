@@ -1,8 +1,10 @@
 // Copies of statements.
 ghost use Rattle.std.specs.Prelude.{◌≡◌, ◌++◌, IfOk, OnOk};
+ghost use Rattle.nest_core.specs.Chains.{leaf_body};
 ghost use Rattle.one_statement.specs.Copies.{with_value};
 
-use chill_base::{Boxed, List, NoMemory};
+use chill_base::{List, NoMemory};
+use nest_core::{Chain, Leaf, chain_of, join};
 use nest_systems::{copy_forms, copy_row, copy_term};
 use nest_tree::{Access, Body, KernelRow, Nest, Term};
 use std::alloc::Global;
@@ -46,36 +48,27 @@ fn copy_rows(alloc: Global, rows: &[KernelRow]) -> Result<List<KernelRow>, NoMem
     Ok(copies)
 }
 
-/// A copy of a right side.
-#[cycle(body)]
-fn copy_body(alloc: Global, body: &Body) -> Result<Body, NoMemory>
-    ensures { IfOk result (λ b. b ≡ body.now) }
+/// A copy of a right side without operations.
+fn copy_leaf(alloc: Global, leaf: Leaf<'_>) -> Result<Body, NoMemory>
+    ensures { IfOk result (λ b. b ≡ leaf_body leaf.entry) }
 {
-    match body {
-        Body::Const(n) => Ok(Body::Const(*n)),
-        Body::At(access) => Ok(Body::At(copy_access(alloc, access)?)),
-        Body::Plus(a, b) => {
-            let (x, y) = copy_two(alloc, a.get(), b.get())?;
-            Ok(Body::Plus(x, y))
-        }
-        Body::Minus(a, b) => {
-            let (x, y) = copy_two(alloc, a.get(), b.get())?;
-            Ok(Body::Minus(x, y))
-        }
-        Body::Times(a, b) => {
-            let (x, y) = copy_two(alloc, a.get(), b.get())?;
-            Ok(Body::Times(x, y))
-        }
+    match leaf {
+        Leaf::Number(n) => Ok(Body::Const(n)),
+        Leaf::Cell(access) => Ok(Body::At(copy_access(alloc, access)?)),
     }
 }
 
-#[cycle(body)]
-fn copy_two(alloc: Global, a: &Body, b: &Body) -> Result<(Boxed<Body>, Boxed<Body>), NoMemory>
-    ensures { IfOk result (λ p. p ≡ (a.now, b.now)) }
+/// A copy of a right side.
+fn copy_body(alloc: Global, body: &Body) -> Result<Body, NoMemory>
+    ensures { IfOk result (λ b. b ≡ body.now) }
 {
-    let x = copy_body(alloc, a)?;
-    let y = copy_body(alloc, b)?;
-    Ok((Boxed::new(alloc, x)?, Boxed::new(alloc, y)?))
+    let Chain { first, mut links } = chain_of(alloc, body)?;
+    let mut whole = copy_leaf(alloc, first)?;
+    while let Some(link) = links.pop() {
+        let right = copy_body(alloc, link.right)?;
+        whole = join(alloc, link.operation, whole, right)?;
+    }
+    Ok(whole)
 }
 
 /// A copy of a statement with another right side.

@@ -1,15 +1,17 @@
 // Rows, terms, cells and right sides whose levels and terms are replaced by forms of new variables.
 ghost use Rattle.std.specs.Prelude.{◌≡◌, ◌≤◌, IfOk, IsTrue};
 ghost use Rattle.std.specs.List.{list_all};
-ghost use Rattle.nest_core.specs.Making.{Gives, each_made, pair_made};
+ghost use Rattle.nest_core.specs.Making.{Gives, each_made};
+ghost use Rattle.nest_core.specs.Chains.{leaf_body};
 ghost use Rattle.nest_core.specs.Forms.{has_vars};
 ghost use Rattle.nest_core.specs.Pieces.{access_made, body_made, term_made};
 ghost use Rattle.nest_core.specs.Shapes.{is_access_over, is_body_over, is_row_over, is_term_over};
 ghost use Rattle.one_statement.specs.Images.{old_vars, image_of, row_image, same_row};
 
 use crate::images::{Images, image_form};
-use chill_base::{Boxed, List, Stop};
+use chill_base::{List, Stop};
 use int_rows::{Aff, Excess, Row};
+use nest_core::{Chain, Leaf, chain_of, join};
 use nest_tree::{Access, Body, KernelRow, Term};
 use std::alloc::Global;
 
@@ -144,47 +146,31 @@ pub fn image_access(alloc: Global, images: &Images, access: &Access) -> Result<A
     make_access(alloc, images, access)
 }
 
+/// A number as it is, and a cell with the levels and terms in its subscripts replaced.
+fn make_leaf(alloc: Global, images: &Images, leaf: Leaf<'_>) -> Result<Body, Stop<Excess>>
+    requires room { images.now.params ≤ images.now.vars }
+    requires leaf { IsTrue (is_body_over (old_vars images.now) (leaf_body leaf)) }
+    ensures { Gives result (body_made (image_of images.now) (leaf_body leaf.entry)) }
+{
+    match leaf {
+        Leaf::Number(n) => Ok(Body::Const(n)),
+        Leaf::Cell(access) => Ok(Body::At(make_access(alloc, images, access)?)),
+    }
+}
+
 /// The right side with the levels and terms in the subscripts of its cells replaced.
-#[cycle(body)]
 fn make_body(alloc: Global, images: &Images, body: &Body) -> Result<Body, Stop<Excess>>
     requires room { images.now.params ≤ images.now.vars }
     requires body { IsTrue (is_body_over (old_vars images.now) body.now) }
     ensures { Gives result (body_made (image_of images.now) body.now) }
 {
-    match body {
-        Body::Const(n) => Ok(Body::Const(*n)),
-        Body::At(access) => Ok(Body::At(make_access(alloc, images, access)?)),
-        Body::Plus(a, b) => {
-            let (x, y) = make_two(alloc, images, a.get(), b.get())?;
-            Ok(Body::Plus(x, y))
-        }
-        Body::Minus(a, b) => {
-            let (x, y) = make_two(alloc, images, a.get(), b.get())?;
-            Ok(Body::Minus(x, y))
-        }
-        Body::Times(a, b) => {
-            let (x, y) = make_two(alloc, images, a.get(), b.get())?;
-            Ok(Body::Times(x, y))
-        }
+    let Chain { first, mut links } = chain_of(alloc, body)?;
+    let mut whole = make_leaf(alloc, images, first)?;
+    while let Some(link) = links.pop() {
+        let right = make_body(alloc, images, link.right)?;
+        whole = join(alloc, link.operation, whole, right)?;
     }
-}
-
-/// Two right sides, the first one first.
-#[cycle(body)]
-fn make_two(
-    alloc: Global,
-    images: &Images,
-    a: &Body,
-    b: &Body,
-) -> Result<(Boxed<Body>, Boxed<Body>), Stop<Excess>>
-    requires room { images.now.params ≤ images.now.vars }
-    requires first { IsTrue (is_body_over (old_vars images.now) a.now) }
-    requires second { IsTrue (is_body_over (old_vars images.now) b.now) }
-    ensures { Gives result (pair_made (body_made (image_of images.now) a.now) (body_made (image_of images.now) b.now)) }
-{
-    let x = make_body(alloc, images, a)?;
-    let y = make_body(alloc, images, b)?;
-    Ok((Boxed::new(alloc, x)?, Boxed::new(alloc, y)?))
+    Ok(whole)
 }
 
 /// The right side with the levels and terms in the subscripts of its cells replaced.

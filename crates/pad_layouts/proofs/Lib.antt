@@ -6,3 +6,4 @@ pub mod Widths
 pub mod Shaping
 pub mod Fitting
 pub mod Depths
+pub mod Linking

@@ -1,5 +1,5 @@
 -- Padded right sides, by their kinds.
-use Rattle.std.proofs.Common.{◌≡◌, ℕ, Bool, true, false, ◌&&◌, List, refl, sym, ap, ◌∙◌}
+use Rattle.std.proofs.Common.{◌≡◌, ℕ, Bool, true, ◌&&◌, List, sym, ap, ◌∙◌}
 use Rattle.std.specs.Prelude.{Option, IsTrue}
 use Rattle.std.specs.List.{list_all}
 use Rattle.nest_tree.specs.declared.body.Access.{Access}
@@ -33,22 +33,8 @@ module _ (picks : List (Option ℕ)) where
   unfolding suits_body
   suits_at b d h = fold_out-Body Bool (suits_layer picks) b ∙ ap (λ d. suits_layer picks (map-Body Body Bool (suits_body picks) d)) h
 
-  both : (x y : Bool) → x && y ≡ true → (x ≡ true) × (y ≡ true)
-  both true true e = (refl, refl)
-  both true false e = absurd cc
-  both false y e = absurd cc
-
   pub suits-At : (b : Body) (a : Access) → b ≡ At a → IsTrue (suits_body picks b) → IsTrue (list_all (suits picks) a.at)
   suits-At b a e h = sym (suits_at (At a) _ (outs-At a)) ∙ sym (ap (suits_body picks) e) ∙ h
-
-  pub suits-Plus : (b x y : Body) → b ≡ Plus x y → IsTrue (suits_body picks b) → IsTrue (suits_body picks x) × IsTrue (suits_body picks y)
-  suits-Plus b x y e h = both _ _ (sym (suits_at (Plus x y) _ (outs-Plus x y)) ∙ sym (ap (suits_body picks) e) ∙ h)
-
-  pub suits-Minus : (b x y : Body) → b ≡ Minus x y → IsTrue (suits_body picks b) → IsTrue (suits_body picks x) × IsTrue (suits_body picks y)
-  suits-Minus b x y e h = both _ _ (sym (suits_at (Minus x y) _ (outs-Minus x y)) ∙ sym (ap (suits_body picks) e) ∙ h)
-
-  pub suits-Times : (b x y : Body) → b ≡ Times x y → IsTrue (suits_body picks b) → IsTrue (suits_body picks x) × IsTrue (suits_body picks y)
-  suits-Times b x y e h = both _ _ (sym (suits_at (Times x y) _ (outs-Times x y)) ∙ sym (ap (suits_body picks) e) ∙ h)
 
   pub suits_is-Const : (n : ℕ) → suits_body picks (Const n) ≡ true
   suits_is-Const n = suits_at (Const n) _ (outs-Const n)

@@ -12,6 +12,7 @@ use Rattle.nest_tree.specs.declared.kernel.Nest.{Nest}
 use Rattle.nest_tree.specs.declared.kernel.Term.{Term}
 use Rattle.pad_layouts.specs.declared.product.Factors.{Factors}
 use Rattle.pad_layouts.specs.declared.product.Factors.TheVariants.{Clean, Once, Otherwise}
+use Rattle.pad_layouts.specs.declared.product.Transfer.{Transfer}
 
 abbrev pub is_name : List ℕ → List ℕ → Bool
 is_name a b = bytes_eq a b
@@ -80,6 +81,12 @@ product_factors Once Clean = Once
 product_factors Once Once = Otherwise
 product_factors Once Otherwise = Otherwise
 product_factors Otherwise b = Otherwise
+
+-- what a whole is where its left part is that
+abbrev pub transferred : Transfer → Factors → Factors
+transferred t Clean = t.clean
+transferred t Once = t.once
+transferred t Otherwise = Otherwise
 
 abbrev pub factors_layer : List ℕ → ℕ → Option ℕ → Body-F Factors → Factors
 factors_layer value entry allowed (Const-F n) = Clean

@@ -1,12 +1,14 @@
 // The right side over the new variables, with a cell of the layout for the entry's value.
 ghost use Rattle.std.specs.Prelude.{◌≡◌, IfOk, IsTrue};
 ghost use Rattle.std.specs.List.{list_all};
+ghost use Rattle.nest_core.specs.Chains.{leaf_body};
 ghost use Rattle.pad_layouts.specs.Moved as spec;
 
 use crate::column::is_name;
 use crate::moved::moved_access;
-use chill_base::{Boxed, List, Name, NoMemory};
+use chill_base::{List, Name, NoMemory};
 use int_rows::Aff;
+use nest_core::{Chain, Leaf, chain_of, join};
 use nest_tree::{Access, Body};
 use std::alloc::Global;
 
@@ -58,8 +60,24 @@ fn padded_access(
     }
 }
 
+/// A number as it is, and a cell over the new variables or the cell of the layout in its place.
+fn padded_leaf(
+    alloc: Global,
+    picks: &[Option<usize>],
+    value: Name,
+    cell: &Access,
+    leaf: Leaf<'_>,
+) -> Result<Body, NoMemory>
+    requires { IsTrue (spec.suits_body picks.now (leaf_body leaf)) }
+    ensures { IfOk result (λ b. b ≡ spec.padded_body picks.now value cell.now (leaf_body leaf.entry)) }
+{
+    match leaf {
+        Leaf::Number(n) => Ok(Body::Const(n)),
+        Leaf::Cell(access) => Ok(Body::At(padded_access(alloc, picks, value, cell, access)?)),
+    }
+}
+
 /// The right side over the new variables, with the cell of the layout in the place of a value of the matrix.
-#[cycle(body)]
 pub fn padded_body(
     alloc: Global,
     picks: &[Option<usize>],
@@ -70,39 +88,11 @@ pub fn padded_body(
     requires { IsTrue (spec.suits_body picks.now body.now) }
     ensures { IfOk result (λ b. b ≡ spec.padded_body picks.now value cell.now body.now) }
 {
-    match body {
-        Body::Const(n) => Ok(Body::Const(*n)),
-        Body::At(access) => Ok(Body::At(padded_access(alloc, picks, value, cell, access)?)),
-        Body::Plus(a, b) => {
-            let (x, y) = padded_two(alloc, picks, value, cell, a.get(), b.get())?;
-            Ok(Body::Plus(x, y))
-        }
-        Body::Minus(a, b) => {
-            let (x, y) = padded_two(alloc, picks, value, cell, a.get(), b.get())?;
-            Ok(Body::Minus(x, y))
-        }
-        Body::Times(a, b) => {
-            let (x, y) = padded_two(alloc, picks, value, cell, a.get(), b.get())?;
-            Ok(Body::Times(x, y))
-        }
+    let Chain { first, mut links } = chain_of(alloc, body)?;
+    let mut whole = padded_leaf(alloc, picks, value, cell, first)?;
+    while let Some(link) = links.pop() {
+        let right = padded_body(alloc, picks, value, cell, link.right)?;
+        whole = join(alloc, link.operation, whole, right)?;
     }
-}
-
-/// Two right sides, the first one first.
-#[cycle(body)]
-fn padded_two(
-    alloc: Global,
-    picks: &[Option<usize>],
-    value: Name,
-    cell: &Access,
-    a: &Body,
-    b: &Body,
-) -> Result<(Boxed<Body>, Boxed<Body>), NoMemory>
-    requires first { IsTrue (spec.suits_body picks.now a.now) }
-    requires second { IsTrue (spec.suits_body picks.now b.now) }
-    ensures { IfOk result (λ p. p ≡ (spec.padded_body picks.now value cell.now a.now, spec.padded_body picks.now value cell.now b.now)) }
-{
-    let x = padded_body(alloc, picks, value, cell, a)?;
-    let y = padded_body(alloc, picks, value, cell, b)?;
-    Ok((Boxed::new(alloc, x)?, Boxed::new(alloc, y)?))
+    Ok(whole)
 }

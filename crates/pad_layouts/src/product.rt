@@ -2,6 +2,7 @@
 ghost use Rattle.std.specs.Prelude.{◌≡◌, ◌≤◌, length, IsTrue};
 ghost use Rattle.std.specs.List.{list_all, list_any};
 ghost use Rattle.pad_layouts.specs.Products as spec;
+ghost use Rattle.pad_layouts.specs.declared.product.Factors.{Factors};
 
 use crate::column::{is_name, is_single};
 use c_tree::How;
@@ -100,24 +101,71 @@ fn product_factors(first: Factors, second: Factors) -> Factors
     }
 }
 
+/// What a whole is as a factor, by what its left part is: where that is `Otherwise`, the whole is so too.
+#[derive(Clone, Copy)]
+struct Transfer {
+    /// What the whole is where the left part is clean.
+    clean: Factors,
+    /// What it is where the left part has the value once.
+    once: Factors,
+}
+
+/// What the whole is.
+fn transferred(transfer: Transfer, left: Factors) -> Factors
+    ensures { result ≡ spec.transferred transfer left }
+{
+    match left {
+        Factors::Clean => transfer.clean,
+        Factors::Once => transfer.once,
+        Factors::Otherwise => Factors::Otherwise,
+    }
+}
+
+/// What the whole is by the left part of a sum.
+fn left_of_sum(transfer: Transfer, right: Factors) -> Transfer
+    ensures { (left : Factors) → spec.transferred result left ≡ spec.transferred transfer (spec.sum_factors left right) }
+{
+    Transfer {
+        clean: transferred(transfer, sum_factors(Factors::Clean, right)),
+        once: transferred(transfer, sum_factors(Factors::Once, right)),
+    }
+}
+
+/// What the whole is by the left part of a product.
+fn left_of_product(transfer: Transfer, right: Factors) -> Transfer
+    ensures { (left : Factors) → spec.transferred result left ≡ spec.transferred transfer (spec.product_factors left right) }
+{
+    Transfer {
+        clean: transferred(transfer, product_factors(Factors::Clean, right)),
+        once: transferred(transfer, product_factors(Factors::Once, right)),
+    }
+}
+
 /// What a right side is as a factor.
 pub fn factors_of(entry: &Entry, body: &Body) -> Factors
     ensures { result ≡ spec.factors_of entry.now.value entry.now.level entry.now.allowed body.now }
 {
-    match body {
-        Body::Const(_) => Factors::Clean,
-        Body::At(access) => cell_factors(entry, access),
-        Body::Plus(a, b) => {
-            let first = factors_of(entry, a.get());
-            sum_factors(first, factors_of(entry, b.get()))
-        }
-        Body::Minus(a, b) => {
-            let first = factors_of(entry, a.get());
-            sum_factors(first, factors_of(entry, b.get()))
-        }
-        Body::Times(a, b) => {
-            let first = factors_of(entry, a.get());
-            product_factors(first, factors_of(entry, b.get()))
+    let mut transfer = Transfer {
+        clean: Factors::Clean,
+        once: Factors::Once,
+    };
+    let mut rest = body;
+    loop {
+        match rest {
+            Body::Const(_) => return transferred(transfer, Factors::Clean),
+            Body::At(access) => return transferred(transfer, cell_factors(entry, access)),
+            Body::Plus(left, right) => {
+                transfer = left_of_sum(transfer, factors_of(entry, right.get()));
+                rest = left.get();
+            }
+            Body::Minus(left, right) => {
+                transfer = left_of_sum(transfer, factors_of(entry, right.get()));
+                rest = left.get();
+            }
+            Body::Times(left, right) => {
+                transfer = left_of_product(transfer, factors_of(entry, right.get()));
+                rest = left.get();
+            }
         }
     }
 }

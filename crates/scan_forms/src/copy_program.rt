@@ -1,10 +1,10 @@
 // Copies of statements, and of a program's signature and inspector.
 ghost use Rattle.std.specs.Prelude.{◌≡◌, IfOk};
 
-use crate::copy_tree::{copy_cell, copy_expr, copy_index, copy_indexes};
 use c_tree::{Array, Program, Stmt, Test};
 use chill_base::{List, NoMemory};
 use std::alloc::Global;
+use tree_copies::{copy_cell, copy_expr, copy_index, copy_indexes};
 
 fn copy_test(alloc: Global, test: &Test) -> Result<Test, NoMemory>
     ensures { IfOk result (λ copy. copy ≡ test.now) }

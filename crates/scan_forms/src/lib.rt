@@ -5,7 +5,6 @@ mod affine;
 mod bounds;
 mod claim;
 mod copy_program;
-mod copy_tree;
 mod fault;
 mod local;
 mod origin;

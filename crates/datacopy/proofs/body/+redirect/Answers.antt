@@ -1,41 +1,39 @@
-use Rattle.std.proofs.Common.{rules, refl, ◌∙◌}
-use Rattle.nest_tree.specs.declared.body.Body.{the_lemmas}
-use Rattle.nest_core.proofs.Bodies.{over-At, over-Plus, over-Minus, over-Times, over_is-At, over_is-Plus, over_is-Minus, over_is-Times}
-use Rattle.datacopy.proofs.Reading.{all-parts, reads-At, reads-Plus, reads-Minus, reads-Times}
+use Rattle.std.proofs.Common.{rules, ◌≡◌, ◌++◌, ◌∷◌, []}
+use Rattle.nest_core.proofs.Chains.{of_last}
+use Rattle.nest_core.proofs.Along.{chain_over}
+use Rattle.datacopy.proofs.Linking.{over_applied, chain_read}
 use Rattle.datacopy.proofs.body.+redirect.Goals as goal
 
-pub redirect-redirected-requires-clause-width : goal.redirect-redirected-requires-clause-width
-redirect-redirected-requires-clause-width t c = over-At _ _ _ c.in-At.is c.requires.width
+pub redirect_leaf-requires-clause-width : goal.redirect_leaf-requires-clause-width
+redirect_leaf-requires-clause-width t c =
+    let o = chain_over _ _ _ _ c.in_ok-first.ensures.whole c.requires.width in
+    o.0
 
-pub redirect-redirected-requires-clause-dims : goal.redirect-redirected-requires-clause-dims
-redirect-redirected-requires-clause-dims t c = rw (reads-At _ _ _ c.in-At.is) at c.requires.dims
+pub redirect_leaf-requires-clause-dims : goal.redirect_leaf-requires-clause-dims
+redirect_leaf-requires-clause-dims t c =
+    let d = chain_read _ _ _ _ _ c.in_ok-first.ensures.whole c.requires.dims in
+    d.0
 
-pub redirect-returns-in_ok-redirected-in-At : goal.redirect-returns-in_ok-redirected-in-At
-redirect-returns-in_ok-redirected-in-At t c = over_is-At _ _ ∙ c.in_ok-redirected-in-At.ensures
+pub loop-link-init : goal.loop-link-init
+loop-link-init t c =
+    let o = chain_over _ _ _ _ c.in_ok-first.ensures.whole c.requires.width in
+    let d = chain_read _ _ _ _ _ c.in_ok-first.ensures.whole c.requires.dims in
+    record {
+      made = c.in_ok-whole.ensures;
+      smaller = c.in_ok-first.ensures.smaller;
+      over = o.1;
+      dims = d.1;
+    }
 
-pub redirect-redirect_two-requires : goal.redirect-redirect_two-requires
-redirect-redirect_two-requires t c =
-    let o = over-Plus _ _ _ _ c.in-Plus.is c.requires.width in
-    let d = all-parts _ _ _ _ (reads-Plus _ _ _ _ c.in-Plus.is) c.requires.dims in
-    (search (rules, the_lemmas), (rw c.get.ensures o.0, (rw c.get-in-Plus.ensures o.1, (c.requires.sides, (rw c.get.ensures d.0, rw c.get-in-Plus.ensures d.1)))))
-
-pub redirect-returns-in_ok-x-in-Plus : goal.redirect-returns-in_ok-x-in-Plus
-redirect-returns-in_ok-x-in-Plus t c = rw (over_is-Plus, c.in_ok-x-in-Plus.ensures.first, c.in_ok-x-in-Plus.ensures.second) refl
-
-pub redirect-redirect_two-requires-in-Minus : goal.redirect-redirect_two-requires-in-Minus
-redirect-redirect_two-requires-in-Minus t c =
-    let o = over-Minus _ _ _ _ c.in-Minus.is c.requires.width in
-    let d = all-parts _ _ _ _ (reads-Minus _ _ _ _ c.in-Minus.is) c.requires.dims in
-    (search (rules, the_lemmas), (rw c.get-in-Minus.ensures o.0, (rw c.get-in-Minus-2.ensures o.1, (c.requires.sides, (rw c.get-in-Minus.ensures d.0, rw c.get-in-Minus-2.ensures d.1)))))
-
-pub redirect-returns-in_ok-x-in-Minus : goal.redirect-returns-in_ok-x-in-Minus
-redirect-returns-in_ok-x-in-Minus t c = rw (over_is-Minus, c.in_ok-x-in-Minus.ensures.first, c.in_ok-x-in-Minus.ensures.second) refl
-
-pub redirect-redirect_two-requires-in-Times : goal.redirect-redirect_two-requires-in-Times
-redirect-redirect_two-requires-in-Times t c =
-    let o = over-Times _ _ _ _ c.in-Times.is c.requires.width in
-    let d = all-parts _ _ _ _ (reads-Times _ _ _ _ c.in-Times.is) c.requires.dims in
-    (search (rules, the_lemmas), (rw c.get-in-Times.ensures o.0, (rw c.get-in-Times-2.ensures o.1, (c.requires.sides, (rw c.get-in-Times.ensures d.0, rw c.get-in-Times-2.ensures d.1)))))
-
-pub redirect-returns-in_ok-x-in-Times : goal.redirect-returns-in_ok-x-in-Times
-redirect-returns-in_ok-x-in-Times t c = rw (over_is-Times, c.in_ok-x-in-Times.ensures.first, c.in_ok-x-in-Times.ensures.second) refl
+pub loop-link-preserved : goal.loop-link-preserved
+loop-link-preserved t c =
+    let last : c.loop-link.links.items ≡ c.pop.new.self.items ++ c.in-Some.link ∷ [] = search (rules) in
+    let smaller = of_last _ _ _ _ last c.loop-link.invariant.smaller in
+    let over = of_last _ _ _ _ last c.loop-link.invariant.over in
+    let dims = of_last _ _ _ _ last c.loop-link.invariant.dims in
+    record {
+      made = over_applied _ _ _ _ _ c.in_ok-whole-2.ensures c.loop-link.invariant.made c.in_ok-right.ensures;
+      smaller = smaller.1;
+      over = over.1;
+      dims = dims.1;
+    }
