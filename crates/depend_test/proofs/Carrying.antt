@@ -1,17 +1,16 @@
 -- Candidates whose carriers, pieces and statements are named one after another.
-use Rattle.std.proofs.Common.{◌≡◌, ◌⊎◌, inl, inr, ℕ, suc, ◌<◌, ◌≤◌, Bool, true, false, cond, List, [], ◌∷◌, ◌++◌, ◌+◌, map, length, drop, get_or, Option, Some, None, is_some, refl, sym, ap, ◌∙◌, subst, subst₂, arith}
+use Rattle.std.proofs.Common.{◌≡◌, ◌⊎◌, inl, inr, ℕ, ◌<◌, ◌≤◌, true, false, List, [], ◌∷◌, ◌+◌, map, length, drop, get_or, Option, Some, None, is_some, refl, sym, ap, ◌∙◌, subst, subst₂, arith}
 use Rattle.std.proofs.lemmas.Option.{slice_get_past, slice_get_cases}
-use Rattle.std.specs.List.{flat_map, slice_get}
+use Rattle.std.specs.List.{slice_get}
 use Rattle.std.specs.Prelude.{Result, Ok, Err, IfOk, IfSome}
 use Rattle.chill_base.specs.declared.faults.Stop.{Stop}
-use Rattle.int_rows.specs.declared.row.Row.{Row}
 use Rattle.int_rows.specs.declared.row.Excess.{Excess}
 use Rattle.int_rows.specs.Systems.{Rows}
 use Rattle.nest_tree.specs.declared.body.Access.{Access}
 use Rattle.nest_tree.specs.declared.fault.Dependence.{Dependence}
-use Rattle.depend_test.specs.First.{IsFirst, none, excluded, found}
+use Rattle.depend_test.specs.First.{IsFirst, none, excluded}
 use Rattle.depend_test.specs.Systems.{SameCell, cell_system, with_old, DecidesNew, DecidesOrders, HasExcluded}
-use Rattle.depend_test.specs.Candidates.{Candidate, IsDecided, whole, alone, carried_of, IsFirstCarried, with_both, carried_each, of_accesses, of_pieces, Between, IsDecidedBetween, dependence, between, IsFirstDependence, at_each, of_statement, candidates}
+use Rattle.depend_test.specs.Candidates.{Candidate, IsDecided, whole, alone, carried_of, IsFirstCarried, with_both, carried_each, of_accesses, of_pieces, IsDecidedBetween, dependence, between, IsFirstDependence, at_each, of_statement, candidates}
 use Rattle.nest_tree.specs.declared.kernel.Kernel.{Kernel}
 use Rattle.nest_tree.specs.declared.moves.Moves.{Moves}
 use Rattle.depend_test.specs.Sides.{AreMoved}

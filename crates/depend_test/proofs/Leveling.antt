@@ -1,5 +1,5 @@
 -- Two accesses of a statement that is compacted.
-use Rattle.std.proofs.Common.{◌≡◌, ℕ, Bool, true, false, not, cond, List, [], ◌∷◌, ◌++◌, map, Option, Some, None, refl, sym, ap, ◌∙◌}
+use Rattle.std.proofs.Common.{◌≡◌, ℕ, Bool, true, false, not, cond, List, [], ◌∷◌, map, Option, Some, None, refl, ap}
 use Rattle.std.specs.Prelude.{Result, Ok, Err, IfOk, IfSome}
 use Rattle.std.specs.List.{slice_get}
 use Rattle.chill_base.specs.declared.faults.Stop.{Stop}
@@ -12,7 +12,7 @@ use Rattle.nest_tree.specs.declared.body.Access.{Access}
 use Rattle.nest_tree.specs.declared.fault.Dependence.{Dependence}
 use Rattle.depend_test.specs.First.{IsFirst, none, excluded as over, found}
 use Rattle.depend_test.specs.Orders.{order_rows}
-use Rattle.depend_test.specs.Systems.{extended, with_old, IsPair, AreEqualSubscripts, SameCell}
+use Rattle.depend_test.specs.Systems.{extended, with_old, IsPair, AreEqualSubscripts}
 use Rattle.depend_test.specs.Levels.{AccessPair, IsDecidedAt, first_access, access_pairs, level_dependence}
 use Rattle.depend_test.specs.Sides.{IsSame}
 use Rattle.depend_test.specs.declared.side.Side.{Side}

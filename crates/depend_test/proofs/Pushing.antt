@@ -1,8 +1,8 @@
 -- Rows that are pushed behind a system's own, and forms that are placed one by one.
-use Rattle.std.proofs.Common.{◌≡◌, ℕ, suc, ◌+◌, ◌<◌, ◌≤◌, Bool, true, false, cond, List, [], ◌∷◌, ◌++◌, length, take, get_or, refl, sym, ap, ◌∙◌, subst, append_assoc, add-one, arith, not, nat_lt, eq-eqb, length-append, ◌&&◌}
+use Rattle.std.proofs.Common.{◌≡◌, ℕ, ◌+◌, ◌<◌, ◌≤◌, Bool, true, false, cond, List, [], ◌∷◌, ◌++◌, length, take, get_or, refl, sym, ap, ◌∙◌, subst, append_assoc, arith, not, nat_lt, eq-eqb, length-append, ◌&&◌}
 use Rattle.std.proofs.lemmas.List.{take_more, take_all, append-nil}
 use Rattle.std.proofs.lemmas.List.Folds.{list_all-append}
-use Rattle.std.specs.Prelude.{Option, Some, None, Result, Ok, Err, IfOk, IsTrue}
+use Rattle.std.specs.Prelude.{Option, Some, None, Result, Ok, Err, IfOk}
 use Rattle.std.specs.List.{position_from, list_all}
 use Rattle.chill_base.specs.declared.faults.Stop.{Stop}
 use Rattle.int_sets.specs.Answers.{Decides}
@@ -13,7 +13,7 @@ use Rattle.int_rows.specs.Systems.{Rows, with_rows, pushed, unless_past, exclude
 use Rattle.int_rows.specs.declared.row.Aff.{Aff}
 use Rattle.int_rows.specs.declared.row.Row.{Row}
 use Rattle.int_rows.specs.declared.row.Excess.{Excess}
-use Rattle.int_rows.specs.declared.row.Excess.TheVariants.{Large, Many}
+use Rattle.int_rows.specs.declared.row.Excess.TheVariants.{Many}
 use Rattle.nest_core.specs.Forms.{has_vars}
 use Rattle.depend_test.specs.Systems.{extended, ArePlaced, HasExcluded}
 

@@ -1,5 +1,4 @@
-use Rattle.std.proofs.Common.{ℕ, List, drop, map}
-use Rattle.std.specs.List.{flat_map}
+use Rattle.std.proofs.Common.{drop}
 use Rattle.depend_test.specs.Candidates.{carried_each}
 use Rattle.depend_test.specs.Systems.{DecidesOrders}
 use Rattle.depend_test.specs.declared.first.Carried.{Carried}

@@ -1,4 +1,4 @@
-use Rattle.std.proofs.Common.{drop, ℕ, cond, []}
+use Rattle.std.proofs.Common.{drop}
 use Rattle.depend_test.specs.Candidates.{IsDecided, carried_of, at_each, of_access, of_conflict}
 use Rattle.depend_test.proofs.Firsts.{Passed}
 use Rattle.depend_test.proofs.first.first_of_access.Given as goal

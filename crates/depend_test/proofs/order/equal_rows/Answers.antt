@@ -1,5 +1,4 @@
-use Rattle.std.proofs.Common.{◌≡◌, ◌<◌, length, arith, rules, refl, sym, ◌∙◌}
-use Rattle.std.proofs.lemmas.Grind.{common_steps}
+use Rattle.std.proofs.Common.{◌<◌, length, rules, refl, sym, ◌∙◌}
 use Rattle.depend_test.proofs.Ordering.{equal-none, equal-push, equal-end, rows-push}
 use Rattle.depend_test.proofs.order.equal_rows.Goals as goal
 

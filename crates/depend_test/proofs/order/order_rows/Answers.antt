@@ -1,4 +1,4 @@
-use Rattle.std.proofs.Common.{rules, inl, inr, refl}
+use Rattle.std.proofs.Common.{inl, inr, refl}
 use Rattle.depend_test.proofs.Ordering.{order-text, order-pushed, order-left}
 use Rattle.depend_test.proofs.order.order_rows.Goals as goal
 use Rattle.depend_test.proofs.order.order_rows.Goals.{then-level-early+then-level-late+in_ok-difference_row+in_ok-push, else-level-early, else-level-early-via-then-level-early+else-level-late, else-level-early-via-else-level-early}

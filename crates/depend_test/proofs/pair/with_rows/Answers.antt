@@ -1,4 +1,3 @@
-use Rattle.std.proofs.Common.{◌≡◌, ◌<◌, length, get_or, rules}
 use Rattle.depend_test.proofs.Pushing.{extended-more}
 use Rattle.depend_test.proofs.pair.with_rows.Goals as goal
 
