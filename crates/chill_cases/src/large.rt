@@ -28,6 +28,15 @@ const SUBSCRIPT: [&str; 5] = [
 /// What is printed for one operand.
 const CELL: &str = "void f(int64_t n, uint64_t y[1])\n{\n  y[0] = 1;\n}\n";
 
+/// A loop over an assignment whose right side has many operands.
+const RIGHT_SIDE: [&str; 5] = [
+    "void f(int64_t n, uint64_t x[n], uint64_t y[n])\n{\n  for (int64_t i = 0; i < n; i++)\n    y[i] = x[i]",
+    " + 3",
+    "",
+    "",
+    ";\n}\n",
+];
+
 /// Differences in parentheses.
 const DEEP: [&str; 5] = [
     "void f(int64_t n, uint64_t y[1])\n{\n  y[0] = ",
@@ -53,6 +62,17 @@ fn a_long_sum_reads_back(rt: HostRuntime) -> Result<(), Fail> {
 #[test]
 fn a_long_subscript_reads_back(rt: HostRuntime) -> Result<(), Fail> {
     stays(&rt, rt.alloc(), &SUBSCRIPT, 50_000)
+}
+
+#[test]
+fn a_long_right_side_is_tiled(rt: HostRuntime) -> Result<(), Fail> {
+    let alloc = rt.alloc();
+    let text = repeated(alloc, &RIGHT_SIDE, 20_000)?;
+    let ended = call_on(alloc, "emit", b"tile(0,1,4,1)\n", text.as_slice())?;
+    assert_eq!(rt; ended.status, 0);
+    assert!(rt; ended.out.bytes().len() > 80_000);
+    assert!(rt; ended.out.bytes().ends_with(b" + 3 + 3;\n    }\n  }\n}\n"));
+    Ok(())
 }
 
 #[test]
