@@ -3,6 +3,7 @@
 
 mod cell;
 mod data;
+mod left_side;
 mod line;
 
 pub use line::print_assignment;
