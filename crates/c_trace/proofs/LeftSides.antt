@@ -1,5 +1,5 @@
 -- Down the left side of a data expression: what its text is, and which cells its parts have.
-use Rattle.std.proofs.Common.{ℕ, zero, suc, ◌≡◌, ◌+◌, ◌≤◌, ◌<◌, [], ◌∷◌, ◌++◌, refl, sym, ap, ◌∙◌, append_assoc, append-nil, add-zero, add-one, arith, rules, ◌-◌, inl, inr, Bool, true, ◌&&◌}
+use Rattle.std.proofs.Common.{ℕ, zero, suc, ◌≡◌, ◌+◌, ◌≤◌, ◌<◌, [], ◌++◌, refl, sym, ap, ◌∙◌, append_assoc, append-nil, add-zero, add-one, arith, rules, ◌-◌, inl, inr, true}
 use Rattle.std.specs.Prelude.{codes, ◌⊎◌}
 use Rattle.c_tree.specs.declared.index.Cell.{Cell}
 use Rattle.c_tree.specs.declared.data.Expr.{Expr, Expr-F, map-Expr, out-Expr, size-Expr, the_lemmas}
@@ -12,7 +12,7 @@ use Rattle.c_print.specs.declared.level.Level.{Level}
 use Rattle.c_print.specs.declared.level.Level.TheVariants.{Sum, Product, Atom}
 use Rattle.c_print.specs.Printed.{Text, Printed, part_at, as_part, as_factor}
 use Rattle.c_print.specs.Data.{data_layer, data_printed}
-use Rattle.c_trace.specs.Lines.{has_cell, has_cells, cells_layer}
+use Rattle.c_trace.specs.Lines.{has_cells}
 use Rattle.c_trace.specs.LeftSide.{level_layer, level_of, left_layer, left_part, opened_at, closed_at, opened_layer, opened, link_layer, link, down, opened_down, behind, opening}
 use Rattle.c_trace.proofs.DataLines.{data_at}
 use Rattle.c_trace.proofs.Cells.{cells_at}

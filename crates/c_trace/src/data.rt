@@ -8,7 +8,7 @@ ghost use Rattle.c_trace.specs.Lines.{cell_line, has_cells};
 ghost use Rattle.c_trace.specs.LeftSide.{level_of, left_part, closed_at, link, behind, opening};
 
 use crate::cell::print_cell;
-use crate::left_side::{MOST, Descent, down, level, walk};
+use crate::left_side::{Descent, MOST, down, level, walk};
 use c_meaning::View;
 use c_print::Level;
 use c_tree::Expr;
@@ -67,7 +67,11 @@ fn print_operation<S: Sink, V: View>(sink: &mut S, view: &V, e: &Expr) -> Result
     requires smaller { size-Expr (left_part e.now) < size-Expr e.now }
     ensures { WritesAll (S.state sink.old) (data_printed (cell_line (V.sight view.now)) e.now).text (S.state sink.new) result }
 {
-    let Descent { steps, opened, rest } = walk(e);
+    let Descent {
+        steps,
+        opened,
+        rest,
+    } = walk(e);
     print_opening(sink, opened)?;
     print_data(sink, view, rest)?;
     print_behind(sink, view, e, steps)

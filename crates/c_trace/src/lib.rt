@@ -7,3 +7,6 @@ mod left_side;
 mod line;
 
 pub use line::print_assignment;
+
+#[cfg(test)]
+mod tests;

@@ -1,7 +1,7 @@
-use Rattle.std.proofs.Common.{◌≡◌, ◌-◌, ◌++◌, ◌∙◌, ap, suc, arith, ◌<◌, ◌≤◌, ℕ, [], refl}
+use Rattle.std.proofs.Common.{◌≡◌, ◌-◌, ◌++◌, ap, suc, arith, ◌<◌, ◌≤◌, ℕ, []}
 use Rattle.std.specs.Prelude.{codes}
 use Rattle.c_trace.specs.LeftSide.{opening}
-use Rattle.c_trace.proofs.Writes.{goes_on, breaks_off, is_done, answered}
+use Rattle.c_trace.proofs.Writes.{goes_on, breaks_off, is_done}
 use Rattle.c_trace.proofs.data.print_opening.Goals as goal
 
 one_less : (n : ℕ) → 0 < n → opening n ≡ codes "(" ++ opening (n - 1)
