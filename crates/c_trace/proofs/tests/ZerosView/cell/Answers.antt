@@ -1,4 +1,4 @@
-use Rattle.std.proofs.Common.{◌≡◌, sym, ap, ℤ, pos, ◌&&◌, Bool, false, List, [], ◌∷◌, Option, Some, None, refl, if◌then◌else◌, int_le, int_lt, arith}
+use Rattle.std.proofs.Common.{◌≡◌, sym, ap, ℤ, pos, ◌&&◌, false, List, [], ◌∷◌, Option, Some, None, refl, if◌then◌else◌, int_le, int_lt, arith}
 use Rattle.std.proofs.lemmas.Int.{ints}
 use Rattle.c_meaning.specs.Value.{is_inside}
 use Rattle.c_trace.proofs.tests.ZerosView.cell.Goals as goal
