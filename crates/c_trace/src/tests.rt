@@ -1,5 +1,5 @@
 // The text of a long right side, and the brackets of left parts.
-ghost use Rattle.std.specs.Prelude.{pos, false, [], IsTrue, IfOk};
+ghost use Rattle.std.specs.Prelude.{pos, true, [], ◌∷◌, IsTrue, IfOk};
 ghost use Rattle.c_meaning.specs.Scope.{Scope};
 ghost use Rattle.c_meaning.specs.Value.{Sight};
 ghost use Rattle.c_trace.specs.Lines.{has_cells};
@@ -11,13 +11,13 @@ use chill_base::{Boxed, List, MemSink, Name};
 use std::alloc::{AllocError, Global};
 use std::test::Fail;
 
-// It has no names and no arrays.
-struct Nothing;
+// Each name is 0, and each array has no cells.
+struct Zeros;
 
-impl View for Nothing {
-    ghost scope = { λ v. record { numbers = λ x. false; index_arrays = λ a. 0; data_arrays = λ a. 0 } };
+impl View for Zeros {
+    ghost scope = { λ v. record { numbers = λ x. true; index_arrays = λ a. 1; data_arrays = λ a. 0 } };
 
-    ghost sight = { λ v. record { value = λ x. pos 0; extents = λ a. []; index = λ a at. pos 0 } };
+    ghost sight = { λ v. record { value = λ x. pos 0; extents = λ a. pos 0 ∷ pos 1 ∷ pos 1 ∷ []; index = λ a at. pos 0 } };
 
     fn value(&self, _name: &Name) -> i64 {
         0
@@ -86,7 +86,7 @@ fn a_long_sum(rt: HostRuntime) -> Result<(), Fail> {
     let sum = sum_of_ones(alloc, 100_000)?;
     let text = text_of_ones(alloc, 100_000)?;
     let mut sink = MemSink::new(alloc, 400_000, 64, List::new(alloc))?;
-    assert!(rt; print_data(&mut sink, &Nothing, &sum) == Ok(()));
+    assert!(rt; print_data(&mut sink, &Zeros, &sum) == Ok(()));
     assert!(rt; sink.bytes() == text.as_slice());
     Ok(())
 }
@@ -99,7 +99,7 @@ fn brackets(rt: HostRuntime) -> Result<(), Fail> {
     let product = times(alloc, minus(alloc, left, right)?, number(7))?;
     let both = times(alloc, product, times(alloc, number(8), number(9))?)?;
     let mut sink = MemSink::new(alloc, 64, 64, List::new(alloc))?;
-    assert!(rt; print_data(&mut sink, &Nothing, &both) == Ok(()));
+    assert!(rt; print_data(&mut sink, &Zeros, &both) == Ok(()));
     assert!(rt; sink.bytes() == b"((1 + 2) * 3 - (4 - 5 * 6)) * 7 * (8 * 9)".as_slice());
     Ok(())
 }
