@@ -5,7 +5,7 @@ use Rattle.c_tree.specs.declared.data.Expr.{Expr, Expr-F, fold_out-Expr, map-Exp
 use Rattle.c_tree.specs.declared.data.Expr.TheVariants.{Const, At, Plus, Minus, Times, outs-Const, outs-At, outs-Plus, outs-Minus, outs-Times}
 use Rattle.c_meaning.specs.Scope.{Scope}
 use Rattle.c_meaning.specs.Value.{Sight}
-use Rattle.c_meaning.proofs.Fitting.{and_left, and_right}
+use Rattle.c_meaning.proofs.Fitting.{and_right}
 use Rattle.c_trace.specs.Lines.{has_cell, has_cells, cells_layer}
 
 pub cells_at : (e : Expr) (d : Expr-F Expr) → out-Expr e ≡ d → (c : Scope) (s : Sight) → has_cells e c s ≡ cells_layer (map-Expr Expr (Scope → Sight → Bool) has_cells d) c s
@@ -40,20 +40,11 @@ module _ (c : Scope) (s : Sight) where
   both-Times : (e a b : Expr) → e ≡ Times a b → has_cells e c s ≡ true → (has_cells a c s && has_cells b c s) ≡ true
   both-Times e a b h k = sym (has-Times a b) ∙ ap (λ e. has_cells e c s) (sym h) ∙ k
 
-  pub left-Plus : (e a b : Expr) → e ≡ Plus a b → has_cells e c s ≡ true → has_cells a c s ≡ true
-  left-Plus e a b h k = and_left (has_cells a c s) (has_cells b c s) (both-Plus e a b h k)
-
   pub right-Plus : (e a b : Expr) → e ≡ Plus a b → has_cells e c s ≡ true → has_cells b c s ≡ true
   right-Plus e a b h k = and_right (has_cells a c s) (has_cells b c s) (both-Plus e a b h k)
 
-  pub left-Minus : (e a b : Expr) → e ≡ Minus a b → has_cells e c s ≡ true → has_cells a c s ≡ true
-  left-Minus e a b h k = and_left (has_cells a c s) (has_cells b c s) (both-Minus e a b h k)
-
   pub right-Minus : (e a b : Expr) → e ≡ Minus a b → has_cells e c s ≡ true → has_cells b c s ≡ true
   right-Minus e a b h k = and_right (has_cells a c s) (has_cells b c s) (both-Minus e a b h k)
-
-  pub left-Times : (e a b : Expr) → e ≡ Times a b → has_cells e c s ≡ true → has_cells a c s ≡ true
-  left-Times e a b h k = and_left (has_cells a c s) (has_cells b c s) (both-Times e a b h k)
 
   pub right-Times : (e a b : Expr) → e ≡ Times a b → has_cells e c s ≡ true → has_cells b c s ≡ true
   right-Times e a b h k = and_right (has_cells a c s) (has_cells b c s) (both-Times e a b h k)

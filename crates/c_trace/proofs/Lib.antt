@@ -3,3 +3,4 @@ pub mod DataLines
 pub mod Cells
 pub mod Counts
 pub mod Places
+pub mod LeftSides

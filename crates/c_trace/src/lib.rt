@@ -3,6 +3,10 @@
 
 mod cell;
 mod data;
+mod left_side;
 mod line;
 
 pub use line::print_assignment;
+
+#[cfg(test)]
+mod tests;

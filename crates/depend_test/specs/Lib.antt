@@ -1,3 +1,7 @@
+pub mod Candidates
 pub mod Conflicts
+pub mod First
+pub mod Levels
 pub mod Orders
 pub mod Sides
+pub mod Systems

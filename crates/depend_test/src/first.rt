@@ -1,8 +1,12 @@
 // The first system that isn't excluded.
-ghost use Rattle.std.specs.Prelude.{◌≡◌, ◌<◌, length, IfOk};
+ghost use Rattle.std.specs.Prelude.{◌≡◌, ◌<◌, ◌||◌, length, not, List, slice_get, IfSome, IfOk};
 ghost use Rattle.std.specs.List.{AllByRecursion};
 ghost use Rattle.nest_core.specs.Shapes.{IsShaped, Fits};
-ghost use Rattle.depend_test.specs.Sides.{IsSide, IsMoved};
+ghost use Rattle.depend_test.specs.Candidates as spec;
+ghost use Rattle.depend_test.specs.First.{IsFirst};
+ghost use Rattle.depend_test.specs.Sides.{IsSide, IsMoved, AreMoved};
+ghost use Rattle.depend_test.specs.Systems.{with_old as with_old_order, with_new as with_new_order, Decides, DecidesNew, DecidesOrders};
+ghost use Rattle.depend_test.specs.declared.side.Moved.{Moved as MovedOf};
 
 use crate::conflict::conflict;
 use crate::order::{carriers, order_rows};
@@ -39,7 +43,9 @@ fn orders_of(
     b: &Moved,
     one: &Side,
     other: &Side,
-) -> Result<Orders, NoMemory> {
+) -> Result<Orders, NoMemory>
+    ensures { IfOk result (λ o. o ≡ spec.orders_between a.now b.now one.now other.now) }
+{
     let first = a.positions.as_slice();
     let second = b.positions.as_slice();
     let late = one.positions.as_slice();
@@ -61,6 +67,7 @@ fn is_open(
     carrier: usize,
 ) -> Result<bool, SetFault>
     requires { system.now.vars ≡ pair.now.first.vars }
+    ensures { IfOk result (λ is_open. DecidesNew system.now pair.now shared carrier (not is_open)) }
 {
     let early = pair.second_new.as_slice();
     let late = pair.first_new.as_slice();
@@ -78,6 +85,7 @@ fn first_new(
     carriers: &[usize],
 ) -> Result<Option<usize>, SetFault>
     requires { system.now.vars ≡ pair.now.first.vars }
+    ensures { IfOk result (λ new. IsFirst (DecidesNew system.now pair.now shared) (λ n. n) carriers.now new) }
 {
     for carrier in carriers {
         if is_open(alloc, system, pair, shared, *carrier)? {
@@ -96,7 +104,8 @@ fn with_old(
     carrier: usize,
 ) -> Result<System, SetFault>
     requires { system.now.vars ≡ pair.now.first.vars }
-    ensures { IfOk result (λ s. s.vars ≡ pair.now.first.vars) }
+    ensures vars { IfOk result (λ s. s.vars ≡ pair.now.first.vars) }
+    ensures value { IfOk result (λ s. s ≡ with_old_order system.now pair.now shared carrier) }
 {
     let early = pair.first_old.as_slice();
     let late = pair.second_old.as_slice();
@@ -112,6 +121,7 @@ fn first_carried(
     orders: &Orders,
 ) -> Result<Option<Carried>, SetFault>
     requires { system.now.vars ≡ pair.now.first.vars }
+    ensures { IfOk result (λ both. IsFirst (DecidesOrders system.now pair.now orders.now) (λ c. c) (spec.carried_each orders.now.old orders.now.new) both) }
 {
     for old in orders.old.as_slice() {
         let before = with_old(alloc, system, pair, orders.old_shared, *old)?;
@@ -141,16 +151,21 @@ fn first_of_pieces(
 ) -> Result<Option<Carried>, SetFault>
     requires first { IsSide (length kernel.now.head.params) a.now }
     requires second { IsSide (length kernel.now.head.params) b.now }
+    ensures { IfOk result (λ both. spec.IsFirstCarried (spec.of_accesses a.now b.now orders.now first.now second.now) both) }
 {
-    if orders.old.len() == 0 || orders.new.len() == 0 {
+    if orders.old.len() == 0 {
+        return Ok(None);
+    }
+    if orders.new.len() == 0 {
         return Ok(None);
     }
     let pair = make_pair(alloc, &kernel.head, kernel.made.as_slice(), a, b)?;
     let rows = subscript_rows(alloc, &pair, first, second)?;
-    if has_room(&pair) && any_impossible(alloc, pair.first.vars, rows.as_slice())? {
+    let equal = rows.as_slice();
+    if has_room(&pair) && any_impossible(alloc, pair.first.vars, equal)? {
         return Ok(None);
     }
-    let system = with_rows(alloc, &pair.system, rows.as_slice())?;
+    let system = with_rows(alloc, &pair.system, equal)?;
     first_carried(alloc, &system, &pair, orders)
 }
 
@@ -166,13 +181,17 @@ fn first_of_numbers(
 ) -> Result<Option<Carried>, SetFault>
     requires first { IsSide (length kernel.now.head.params) a.now }
     requires second { IsSide (length kernel.now.head.params) b.now }
+    ensures { IfOk result (λ both. spec.IsFirstCarried (spec.of_pieces orders.now i j a.now b.now) both) }
 {
-    if i < a.accesses.len() && j < b.accesses.len() {
-        let first = &a.accesses.as_slice()[i];
-        let second = &b.accesses.as_slice()[j];
-        return first_of_pieces(alloc, kernel, orders, a, b, first, second);
+    let firsts = a.accesses.as_slice();
+    let seconds = b.accesses.as_slice();
+    if i >= firsts.len() {
+        return Ok(None);
     }
-    Ok(None)
+    if j >= seconds.len() {
+        return Ok(None);
+    }
+    first_of_pieces(alloc, kernel, orders, a, b, &firsts[i], &seconds[j])
 }
 
 /// The first two carriers of two accesses, over the pieces of the second statement.
@@ -187,6 +206,7 @@ fn first_of_piece(
 ) -> Result<Option<Carried>, SetFault>
     requires first { IsSide (length kernel.now.head.params) one.now }
     requires second { IsMoved (length kernel.now.head.params) b.now }
+    ensures { IfOk result (λ both. spec.IsFirstCarried (spec.of_piece a.now b.now i j one.now) both) }
 {
     for other in b.sides.as_slice() {
         let orders = orders_of(alloc, a, b, one, other)?;
@@ -209,6 +229,7 @@ fn first_of_accesses(
 ) -> Result<Option<Carried>, SetFault>
     requires first { IsMoved (length kernel.now.head.params) a.now }
     requires second { IsMoved (length kernel.now.head.params) b.now }
+    ensures { IfOk result (λ both. spec.IsFirstCarried (spec.of_numbers a.now b.now i j) both) }
 {
     for one in a.sides.as_slice() {
         let found = first_of_piece(alloc, kernel, a, b, one, i, j)?;
@@ -230,10 +251,12 @@ fn first_of_access(
 ) -> Result<Option<Carried>, SetFault>
     requires first { IsMoved (length kernel.now.head.params) a.now }
     requires second { IsMoved (length kernel.now.head.params) b.now }
+    ensures { IfOk result (λ both. spec.IsFirstCarried (spec.of_access a.now b.now i cell.now) both) }
 {
     let others = b.accesses.as_slice();
     for j in 0..others.len() {
-        if conflict(a.how, cell, i, b.how, &others[j], j) {
+        let other = &others[j];
+        if conflict(a.how, cell, i, b.how, other, j) {
             let found = first_of_accesses(alloc, kernel, a, b, i, j)?;
             if found.is_some() {
                 return Ok(found);
@@ -254,21 +277,31 @@ fn first_of_statements(
     requires from { from < length all.now }
     requires to { to < length all.now }
     requires moved { AllByRecursion (IsMoved (length kernel.now.head.params)) all.now }
+    ensures { IfOk result (λ d. IfSome (slice_get all.now from) (λ a. IfSome (slice_get all.now to) (λ b. spec.IsFirstDependence (spec.of_statements from a to b) d))) }
 {
     let a = &all[from];
+    let b = &all[to];
     let cells = a.accesses.as_slice();
     for i in 0..cells.len() {
-        if let Some(carried) = first_of_access(alloc, kernel, a, &all[to], &cells[i], i)? {
+        let cell = &cells[i];
+        if let Some(carried) = first_of_access(alloc, kernel, a, b, cell, i)? {
             return Ok(Some(Dependence {
                 from,
                 to,
-                array: cells[i].array,
+                array: cell.array,
                 old_level: carried.old,
                 new_level: carried.new,
             }));
         }
     }
     Ok(None)
+}
+
+/// Whether the command applies to one of two statements.
+fn either_applies(a: &Moved, b: &Moved) -> bool
+    ensures { result ≡ (a.now.applies || b.now.applies) }
+{
+    a.applies || b.applies
 }
 
 /// The first dependence of a statement and all others, where the command applies to one of the two.
@@ -280,9 +313,11 @@ fn first_of_statement(
 ) -> Result<Option<Dependence>, SetFault>
     requires from { from < length all.now }
     requires moved { AllByRecursion (IsMoved (length kernel.now.head.params)) all.now }
+    ensures { IfOk result (λ d. IfSome (slice_get all.now from) (λ a. spec.IsFirstDependence (spec.of_statement all.now from a) d)) }
 {
+    let a = &all[from];
     for to in 0..all.len() {
-        if all[from].applies || all[to].applies {
+        if either_applies(a, &all[to]) {
             let found = first_of_statements(alloc, kernel, all, from, to)?;
             if found.is_some() {
                 return Ok(found);
@@ -299,6 +334,7 @@ pub fn first_dependence_among(
     all: &[Moved],
 ) -> Result<Option<Dependence>, SetFault>
     requires moved { AllByRecursion (IsMoved (length kernel.now.head.params)) all.now }
+    ensures { IfOk result (λ d. spec.IsFirstDependence (spec.candidates all.now) d) }
 {
     for from in 0..all.len() {
         let found = first_of_statement(alloc, kernel, all, from)?;
@@ -318,6 +354,7 @@ pub fn first_dependence(
 ) -> Result<Option<Dependence>, SetFault>
     requires shaped { IsShaped kernel.now }
     requires fits { Fits kernel.now moves.now }
+    ensures { IfOk result (λ d. (all : List MovedOf) × AreMoved kernel.now moves.now all × spec.IsFirstDependence (spec.candidates all) d) }
 {
     let all = make_moved(alloc, kernel, moves)?;
     first_dependence_among(alloc, kernel, all.as_slice())

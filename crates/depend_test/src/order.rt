@@ -95,6 +95,7 @@ pub fn equal_rows(
     b: &[Aff],
 ) -> Result<List<Row>, NoMemory>
     ensures width { IfOk result (λ rows. IsTrue (list_all (row_has_vars vars) rows)) }
+    ensures value { IfOk result (λ rows. rows ≡ spec.equal_rows vars count a.now b.now) }
 {
     let mut rows = List::new(alloc);
     for place in 0..count.min(a.len()).min(b.len()) {
@@ -114,6 +115,7 @@ pub fn order_rows(
     late: &[Aff],
 ) -> Result<List<Row>, NoMemory>
     ensures width { IfOk result (λ rows. IsTrue (list_all (row_has_vars vars) rows)) }
+    ensures value { IfOk result (λ rows. rows ≡ spec.order_rows vars carrier shared early.now late.now) }
 {
     if carrier == 0 {
         return equal_rows(alloc, vars, shared, late, early);

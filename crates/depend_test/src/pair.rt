@@ -4,6 +4,7 @@ ghost use Rattle.std.specs.List.{list_all};
 ghost use Rattle.nest_systems.specs.Owns.{row_has_vars};
 ghost use Rattle.nest_systems.specs.Instances.{IsInstance};
 ghost use Rattle.depend_test.specs.Sides.{IsSide};
+ghost use Rattle.depend_test.specs.Systems.{ArePlaced, IsPair, AreEqualSubscripts, extended};
 
 use crate::order::equal_rows;
 use crate::side::Side;
@@ -136,7 +137,9 @@ fn place_both(
 }
 
 /// The forms, placed in a system.
-fn place_forms(alloc: Global, seats: &Seats, forms: &[Aff]) -> Result<List<Aff>, NoMemory> {
+fn place_forms(alloc: Global, seats: &Seats, forms: &[Aff]) -> Result<List<Aff>, NoMemory>
+    ensures { IfOk result (λ placed. ArePlaced seats.now.vars forms.now placed) }
+{
     let mut placed = List::new(alloc);
     for form in forms {
         placed.push(seats.place(alloc, form)?)?;
@@ -155,7 +158,8 @@ pub fn make_pair(
 ) -> Result<Pair, SetFault>
     requires first { IsSide (length head.now.params) a.now }
     requires second { IsSide (length head.now.params) b.now }
-    ensures { IfOk result (λ p. p.system.vars ≡ p.first.vars) }
+    ensures vars { IfOk result (λ p. p.system.vars ≡ p.first.vars) }
+    ensures pair { IfOk result (λ p. IsPair a.now b.now p) }
 {
     let both = seat_both(alloc, head, &a.instance, &b.instance)?;
     let mut system = begin_system(alloc, head, both.vars)?;
@@ -181,7 +185,10 @@ fn finish_pair(
     a: &Side,
     b: &Side,
 ) -> Result<Pair, NoMemory>
-    ensures { IfOk result (λ p. (p.system ≡ system) × (p.first ≡ both.first)) }
+    requires vars { system.vars ≡ both.first.vars }
+    requires second { both.second.vars ≡ both.first.vars }
+    ensures parts { IfOk result (λ p. (p.system ≡ system) × (p.first ≡ both.first)) }
+    ensures pair { IfOk result (λ p. IsPair a.now b.now p) }
 {
     let first_old = place_forms(alloc, &both.first, a.old.as_slice())?;
     let second_old = place_forms(alloc, &both.second, b.old.as_slice())?;
@@ -202,6 +209,7 @@ fn finish_pair(
 pub fn with_rows(alloc: Global, system: &System, rows: &[Row]) -> Result<System, SetFault>
     requires { IsTrue (list_all (row_has_vars system.now.vars) rows.now) }
     ensures vars { IfOk result (λ s. s.vars ≡ system.now.vars) }
+    ensures value { IfOk result (λ s. s ≡ extended system.now rows.now) }
 {
     let mut new = system.copy(alloc)?;
     for row in rows {
@@ -217,7 +225,8 @@ pub fn subscript_rows(
     a: &Access,
     b: &Access,
 ) -> Result<List<Row>, NoMemory>
-    ensures { IfOk result (λ rows. IsTrue (list_all (row_has_vars pair.now.first.vars) rows)) }
+    ensures width { IfOk result (λ rows. IsTrue (list_all (row_has_vars pair.now.first.vars) rows)) }
+    ensures value { IfOk result (λ rows. AreEqualSubscripts pair.now a.now b.now rows) }
 {
     let x = place_forms(alloc, &pair.first, a.at.as_slice())?;
     let y = place_forms(alloc, &pair.second, b.at.as_slice())?;

@@ -1,7 +1,9 @@
 // Pairs of accesses that can be told apart at the first look.
-ghost use Rattle.std.specs.Prelude.{◌≡◌, IsTrue};
+ghost use Rattle.std.specs.Prelude.{◌≡◌, ◌∷◌, [], IsTrue, IfOk, Ok};
 ghost use Rattle.std.specs.List.{list_all};
+ghost use Rattle.int_rows.specs.Exclusion.{exclusion};
 ghost use Rattle.nest_systems.specs.Owns.{row_has_vars};
+ghost use Rattle.depend_test.specs.Systems.{HasExcluded};
 
 use crate::pair::Pair;
 use int_rows::{Aff, Row};
@@ -37,6 +39,7 @@ pub fn has_room(pair: &Pair) -> bool {
 /// Whether an equality alone has no integer point, as the first look at each system that has it shows.
 fn is_impossible(alloc: Global, vars: usize, row: &Row) -> Result<bool, SetFault>
     requires { IsTrue (row_has_vars vars row.now) }
+    ensures { IfOk result (λ b. exclusion vars (row.now ∷ []) ≡ Ok b) }
 {
     let mut alone = System::new(alloc, vars);
     alone.push(copy_row(alloc, row)?)?;
@@ -46,6 +49,7 @@ fn is_impossible(alloc: Global, vars: usize, row: &Row) -> Result<bool, SetFault
 /// Whether one of these equalities alone has no integer point. Each of them is pushed, in order.
 pub fn any_impossible(alloc: Global, vars: usize, rows: &[Row]) -> Result<bool, SetFault>
     requires { IsTrue (list_all (row_has_vars vars) rows.now) }
+    ensures { IfOk result (λ b. IsTrue b → HasExcluded vars rows.now) }
 {
     let mut found = false;
     for row in rows {

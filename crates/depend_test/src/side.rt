@@ -6,7 +6,7 @@ ghost use Rattle.nest_core.specs.Pieces.{pieces_made};
 ghost use Rattle.nest_core.specs.Shapes.{IsShaped, IsShapedNest, FitsNest, Fits};
 ghost use Rattle.nest_systems.specs.Cells.{cells};
 ghost use Rattle.nest_systems.specs.Instances.{IsInstance};
-ghost use Rattle.depend_test.specs.Sides.{IsSide, IsMoved};
+ghost use Rattle.depend_test.specs.Sides.{IsSide, IsMoved, IsSame};
 
 use c_tree::{How, Program};
 use chill_base::{List, NoMemory};
@@ -68,7 +68,10 @@ fn make_side(
     old: List<Aff>,
 ) -> Result<Side, NoMemory>
     requires { IsShapedNest head.now nest.now }
-    ensures { IfOk result (λ s. IsSide (length head.now.params) s) }
+    ensures shape { IfOk result (λ s. IsSide (length head.now.params) s) }
+    ensures accesses { IfOk result (λ s. s.accesses ≡ cells nest.now) }
+    ensures positions { IfOk result (λ s. s.positions ≡ nest.now.positions) }
+    ensures old { IfOk result (λ s. s.old ≡ old) }
 {
     let own = accesses(alloc, nest)?;
     let forms = all_forms(alloc, own.as_slice(), old.as_slice())?;
@@ -132,7 +135,8 @@ pub fn same_side(
     nest: &Nest,
 ) -> Result<Side, NoMemory>
     requires { IsShapedNest head.now nest.now }
-    ensures { IfOk result (λ s. IsSide (length head.now.params) s) }
+    ensures shape { IfOk result (λ s. IsSide (length head.now.params) s) }
+    ensures same { IfOk result (λ s. IsSame (length head.now.params) nest.now s) }
 {
     let params = head.params.as_slice().len();
     let levels = nest.levels.len();

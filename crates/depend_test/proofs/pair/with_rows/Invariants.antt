@@ -1,5 +1,6 @@
-use Rattle.std.proofs.Common.{◌≡◌}
+use Rattle.std.proofs.Common.{◌≡◌, take}
+use Rattle.depend_test.specs.Systems.{extended}
 use Rattle.depend_test.proofs.pair.with_rows.Given as goal
 
 abbrev pub invariant-loop-row : goal.invariant-loop-row
-invariant-loop-row l = l.new.vars ≡ l.system.vars
+invariant-loop-row l = l.new ≡ extended l.system (take l.row-index l.rows)

@@ -1,0 +1,5 @@
+use Rattle.depend_test.proofs.Pushing.{alone-decides}
+use Rattle.depend_test.proofs.quick.is_impossible.Goals as goal
+
+pub returns : goal.returns
+returns c = alone-decides _ c.new-alone.result c.push.new.self _ _ c.new-alone.ensures (rw c.in_ok-copy_row.ensures at c.in_ok-push.ensures.answer) c.excluded.ensures
