@@ -37,10 +37,10 @@ fn summaries(rt: HostRuntime) -> Result<(), Fail> {
 
 #[test]
 fn summaries_stay_the_same(rt: HostRuntime) -> Result<(), Fail> {
-    let first = worked(rt.alloc(), "7", "40")?;
+    let first = worked(rt.alloc(), "7", "4000")?;
     assert_eq!(rt; first.status, 0);
-    assert!(rt; first.out.bytes().starts_with(b"size 40\nentries "));
-    let second = worked(rt.alloc(), "7", "40")?;
+    assert!(rt; first.out.bytes().starts_with(b"size 4000\nentries 30725\n"));
+    let second = worked(rt.alloc(), "7", "4000")?;
     assert!(rt; first.out.bytes() == second.out.bytes());
     Ok(())
 }
