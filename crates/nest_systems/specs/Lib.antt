@@ -5,3 +5,9 @@ pub mod Cells
 pub mod Chosen
 pub mod Instances
 pub mod Owns
+pub mod Extending
+pub mod Placing
+pub mod Extents
+pub mod Begun
+pub mod Parts
+pub mod Seating

@@ -1,5 +1,6 @@
 // Terms that read the same cell.
-ghost use Rattle.std.specs.Prelude.{◌+◌, ◌<◌, ◌^◌, length};
+ghost use Rattle.std.specs.Prelude.{◌≡◌, ◌+◌, ◌<◌, ◌^◌, length};
+ghost use Rattle.nest_systems.specs.Placing.{small_total, numbers_there};
 
 use crate::range::is_name;
 use crate::span::is_there;
@@ -12,6 +13,7 @@ use nest_tree::Term;
 /// `first` is the place of the first term's number.
 pub fn sum_there(first: usize, there: &[Option<usize>], var: usize, coefs: &[i128]) -> Option<i128>
     requires room { first + length there.now < 2 ^ 64 }
+    ensures { result ≡ small_total (numbers_there first there.now var coefs.now) }
 {
     let mut total = Total::zero();
     for i in 0..there.len() {

@@ -1,14 +1,15 @@
 // A statement's part of a system.
-ghost use Rattle.std.specs.Prelude.{◌≡◌, ◌+◌, ◌<◌, ◌≤◌, ◌^◌, length, IsTrue, IfOk, OnOk};
+ghost use Rattle.std.specs.Prelude.{◌≡◌, ◌+◌, ◌<◌, ◌≤◌, ◌^◌, ◌++◌, length, IsTrue, IfOk, OnOk};
 ghost use Rattle.std.specs.List.{list_all};
 ghost use Rattle.nest_core.specs.Shapes.{is_term_over};
 ghost use Rattle.nest_systems.specs.Chosen.{is_within, IsChosen};
 ghost use Rattle.nest_systems.specs.Instances.{IsInstance};
+ghost use Rattle.nest_systems.specs.Parts as spec;
 
 use crate::choose::{Chosen, choose_end, choose_more, meet_forms, meet_rows, none_chosen};
 use crate::copy::copy_rows;
 use crate::needs::{find_first_cell, value_counts};
-use crate::range::value_span;
+use crate::range::{Span, value_span};
 use crate::span::{high_row, low_row, unit_form};
 use crate::widen::extended_terms;
 use c_tree::Program;
@@ -85,6 +86,7 @@ fn choose_each(chosen: &mut Chosen, more: usize) -> Result<(), NoMemory>
 
 fn count_var(first: usize, terms: &[Term], count: Option<Name>) -> Option<usize>
     requires room { first + length terms.now < 2 ^ 64 }
+    ensures { result ≡ spec.count_var first terms.now count }
 {
     match count {
         Some(name) => match find_first_cell(terms, name) {
@@ -95,7 +97,48 @@ fn count_var(first: usize, terms: &[Term], count: Option<Name>) -> Option<usize>
     }
 }
 
+/// The two rows of a range of a form behind others, where there is a range.
+fn push_span(
+    alloc: Global,
+    rows: &mut List<Row>,
+    first: usize,
+    terms: &[Term],
+    span: &Option<Span>,
+    form: &Aff,
+) -> Result<(), NoMemory>
+    requires room { first + length terms.now < 2 ^ 64 }
+    ensures { OnOk result (rows.new ≡ rows.old ++ spec.span_rows first terms.now form.now span.now) }
+{
+    if let Some(span) = span {
+        let vars = first + terms.len();
+        let count = count_var(first, terms, span.count);
+        rows.push(low_row(alloc, span, form, vars)?)?;
+        rows.push(high_row(alloc, span, form, count, vars)?)?;
+    }
+    Ok(())
+}
+
+/// The value range of a term behind other rows.
+fn push_value_range(
+    alloc: Global,
+    head: &Program,
+    made: &[Made],
+    rows: &mut List<Row>,
+    first: usize,
+    terms: &[Term],
+    term: usize,
+) -> Result<(), NoMemory>
+    requires room { first + length terms.now < 2 ^ 64 }
+    requires term { term < length terms.now }
+    ensures { OnOk result (rows.new ≡ rows.old ++ spec.rows_of_term head.now made.now first terms.now term) }
+{
+    let span = value_span(alloc, head, made, terms[term].array)?;
+    let form = unit_form(alloc, first + term, first + terms.len())?;
+    push_span(alloc, rows, first, terms, &span, &form)
+}
+
 /// The value ranges of terms, over the variables of the statement.
+#[tactic(auto, unfolding(crate::specs::Parts::value_rows))]
 fn value_rows(
     alloc: Global,
     head: &Program,
@@ -106,16 +149,11 @@ fn value_rows(
 ) -> Result<List<Row>, NoMemory>
     requires room { first + length terms.now < 2 ^ 64 }
     requires order { IsTrue (list_all (is_within (length terms.now)) order.now) }
+    ensures { IfOk result (λ rows. rows ≡ spec.value_rows head.now made.now first terms.now order.now) }
 {
-    let vars = first + terms.len();
     let mut rows = List::new(alloc);
     for term in order {
-        if let Some(span) = value_span(alloc, head, made, terms[*term].array)? {
-            let form = unit_form(alloc, first + *term, vars)?;
-            let count = count_var(first, terms, span.count);
-            rows.push(low_row(alloc, &span, &form, vars)?)?;
-            rows.push(high_row(alloc, &span, &form, count, vars)?)?;
-        }
+        push_value_range(alloc, head, made, &mut rows, first, terms, *term)?;
     }
     Ok(rows)
 }
@@ -136,6 +174,7 @@ pub fn make_instance(
     requires levels { levels ≤ 8 }
     requires terms { IsTrue (list_all (is_term_over (length head.now.params + levels + length terms.now)) terms.now) }
     requires extras { extras ≤ length terms.now }
+    ensures part { IfOk result (λ i. spec.IsPart head.now made.now levels rows.now i) }
     ensures instance { IfOk result (λ i. IsInstance (length head.now.params) i) }
     ensures levels { IfOk result (λ i. i.levels ≡ levels) }
     ensures count { IfOk result (λ i. i.count ≡ length terms.now) }
@@ -162,13 +201,23 @@ pub fn make_instance(
     })
 }
 
+/// The array of a term behind other names.
+fn push_name(names: &mut List<Name>, terms: &[Term], term: usize) -> Result<(), NoMemory>
+    requires { term < length terms.now }
+    ensures { OnOk result (names.new ≡ names.old ++ spec.name_of_term terms.now term) }
+{
+    names.push(terms[term].array)?;
+    Ok(())
+}
+
 /// The arrays of the reads that stand at the very end.
 pub fn end_names(alloc: Global, params: usize, instance: &Instance) -> Result<List<Name>, NoMemory>
     requires { IsInstance params instance.now }
+    ensures { IfOk result (λ names. names ≡ spec.end_names instance.now) }
 {
     let mut names = List::new(alloc);
     for term in instance.chosen.ends.as_slice() {
-        names.push(instance.terms.as_slice()[*term].array)?;
+        push_name(&mut names, instance.terms.as_slice(), *term)?;
     }
     Ok(names)
 }

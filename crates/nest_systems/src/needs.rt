@@ -1,46 +1,51 @@
 // The reads `count[0]` that ranges speak of.
 ghost use Rattle.std.specs.Prelude.{◌≡◌, ◌<◌, length, IsTrue, IfSome};
-ghost use Rattle.std.specs.List.{list_all};
+ghost use Rattle.std.specs.List.{list_all, position_from};
+ghost use Rattle.nest_systems.specs.Extents.{has_name};
+ghost use Rattle.nest_systems.specs.Parts.{is_zero_form, is_first_cell};
 ghost use Rattle.nest_systems.specs.Chosen.{is_within};
 
 use crate::range::{is_name, value_span};
+use crate::system::is_constant;
 use c_tree::Program;
 use chill_base::{List, Name, NoMemory};
 use int_rows::Aff;
 use nest_tree::{Made, Term};
 use std::alloc::Global;
 
-fn is_zero(form: &Aff) -> bool {
-    form.constant == 0 && form.coefs.as_slice().iter().all(|c| *c == 0)
+fn is_zero(form: &Aff) -> bool
+    ensures { result ≡ is_zero_form form.now }
+{
+    form.constant == 0 && is_constant(form)
+}
+
+fn are_zero(forms: &[Aff]) -> bool
+    ensures { result ≡ list_all is_zero_form forms.now }
+{
+    forms.iter().all(|form| is_zero(form))
 }
 
 /// Whether a term is `array[0]`.
-fn is_first_cell(term: &Term, array: Name) -> bool {
-    is_name(term.array, array) && term.at.as_slice().iter().all(|form| is_zero(form))
+fn is_first_cell(term: &Term, array: Name) -> bool
+    ensures { result ≡ is_first_cell array term.now }
+{
+    is_name(term.array, array) && are_zero(term.at.as_slice())
 }
 
 /// The first of the terms that is `array[0]`.
 pub fn find_first_cell(terms: &[Term], array: Name) -> Option<usize>
-    ensures { IfSome result (λ t. t < length terms.now) }
+    ensures value { result ≡ position_from (is_first_cell array) 0 terms.now }
+    ensures bound { IfSome result (λ t. t < length terms.now) }
 {
-    for i in 0..terms.len() {
-        if is_first_cell(&terms[i], array) {
-            return Some(i);
-        }
-    }
-    None
+    terms.iter().position(|term| is_first_cell(term, array))
 }
 
 /// Where a name stands in a list.
 pub fn find_name(names: &[Name], name: Name) -> Option<usize>
-    ensures { IfSome result (λ t. t < length names.now) }
+    ensures value { result ≡ position_from (has_name name) 0 names.now }
+    ensures bound { IfSome result (λ t. t < length names.now) }
 {
-    for i in 0..names.len() {
-        if is_name(names[i], name) {
-            return Some(i);
-        }
-    }
-    None
+    names.iter().position(|other| is_name(*other, name))
 }
 
 /// The array `count` of which `count[0]` bounds the values of an array.

@@ -5,7 +5,8 @@ ghost use Rattle.nest_core.specs.Shapes.{is_term_over};
 ghost use Rattle.nest_systems.specs.Owns.{IsOwn};
 
 use crate::instance::{Instance, end_names, make_instance};
-use crate::seats::{Places, Seats, take_seats};
+use crate::seating::take_seats;
+use crate::seats::{Places, Seats};
 use crate::system::{begin_system, place_rows, push_end_ranges};
 use c_tree::Program;
 use chill_base::{List, NoMemory};

@@ -1,26 +1,36 @@
 // Forms over further variables.
-ghost use Rattle.std.specs.Prelude.{◌≡◌, ◌+◌, ◌<◌, ◌≤◌, ◌^◌, length, IsTrue, IfOk};
-ghost use Rattle.std.specs.List.{list_all};
+ghost use Rattle.std.specs.Prelude.{◌≡◌, ◌+◌, ◌<◌, ◌≤◌, ◌^◌, map, length, IsTrue, IfOk};
+ghost use Rattle.std.specs.List.{list_all, range_with_len};
 ghost use Rattle.nest_core.specs.Forms.{has_vars};
 ghost use Rattle.nest_core.specs.Shapes.{is_term_over};
+ghost use Rattle.nest_systems.specs.Sums as spec;
+ghost use Rattle.nest_systems.specs.Begun.{widened};
 
 use crate::extent::zero_form;
+use crate::sums::number_at;
 use chill_base::{List, Name, NoMemory};
 use int_rows::Aff;
 use nest_tree::Term;
 use std::alloc::Global;
 
+/// So many numbers: those of a list, and 0 behind its end.
+fn widened_numbers(alloc: Global, numbers: &[i128], vars: usize) -> Result<List<i128>, NoMemory>
+    ensures { IfOk result (λ zs. zs ≡ map (spec.number_at numbers.now) (range_with_len 0 vars)) }
+{
+    let mut wide = List::new(alloc);
+    for var in 0..vars {
+        wide.push(number_at(numbers, var))?;
+    }
+    Ok(wide)
+}
+
 /// A form over more variables: 0 at each further one.
 pub fn widened_form(alloc: Global, form: &Aff, vars: usize) -> Result<Aff, NoMemory>
-    requires { length form.now.coefs ≤ vars }
-    ensures { IfOk result (λ f. IsTrue (has_vars vars f)) }
+    ensures value { IfOk result (λ f. f ≡ widened vars form.now) }
+    ensures width { IfOk result (λ f. IsTrue (has_vars vars f)) }
 {
-    let mut coefs = List::from_slice(alloc, form.coefs.as_slice())?;
-    for _ in coefs.len()..vars {
-        coefs.push(0)?;
-    }
     Ok(Aff {
-        coefs,
+        coefs: widened_numbers(alloc, form.coefs.as_slice(), vars)?,
         constant: form.constant,
     })
 }
