@@ -66,7 +66,7 @@ module _ (s : Rows) (p : Pair) (o : Orders) (items news : List ℕ) (before : Ro
       listed-over (DecidesOrders s p o) (λ (c : Carried). c) (carried_each o.old o.new) news_of o.old i (get_or o.old i 0) inside (sym (get_or_default_zero o.old i (get_or o.old i 0) inside)) q v
 
 -- two pieces and an access of each
-module _ (one other : Side) (o : Orders) (first second : Access) where
+module _ (k : Kernel) (one other : Side) (o : Orders) (first second : Access) where
   abbrev with_carriers : Carried → Candidate
   with_carriers c = record { one = one; other = other; first = first; second = second; orders = o; carried = c }
 
@@ -80,58 +80,58 @@ module _ (one other : Side) (o : Orders) (first second : Access) where
   no-carriers (old ∷ olds) (new ∷ news) (inl h) = absurd (omega arith)
   no-carriers (old ∷ olds) (new ∷ news) (inr h) = absurd (omega arith)
 
-  pub accesses-nothing : (length o.old ≡ 0) ⊎ (length o.new ≡ 0) → IsFirstCarried (of_accesses one other o first second) None
+  pub accesses-nothing : (length o.old ≡ 0) ⊎ (length o.new ≡ 0) → IsFirstCarried k (of_accesses one other o first second) None
   accesses-nothing h = rw (no-carriers o.old o.new h) none
 
-  pub accesses-alone : (w : SameCell one other first second) → HasExcluded w.pair.first.vars w.equal → IsFirstCarried (of_accesses one other o first second) None
+  pub accesses-alone : (w : SameCell k one other first second) → HasExcluded w.pair.first.vars w.equal → IsFirstCarried k (of_accesses one other o first second) None
   accesses-alone w h = over (carried_each o.old o.new)
     where
-      over : (cs : List Carried) → IsFirstCarried (map with_carriers cs) None
+      over : (cs : List Carried) → IsFirstCarried k (map with_carriers cs) None
       over [] = none
       over (c ∷ cs) = excluded (with_carriers c) (map with_carriers cs) None (alone w h) (over cs)
 
-  pub accesses-whole : (w : SameCell one other first second) (s : Rows) (r : Option Carried) → s ≡ cell_system w
-      → IsFirst (DecidesOrders s w.pair o) (λ (c : Carried). c) (carried_each o.old o.new) r → IsFirstCarried (of_accesses one other o first second) r
+  pub accesses-whole : (w : SameCell k one other first second) (s : Rows) (r : Option Carried) → s ≡ cell_system w
+      → IsFirst (DecidesOrders s w.pair o) (λ (c : Carried). c) (carried_each o.old o.new) r → IsFirstCarried k (of_accesses one other o first second) r
   accesses-whole w s r e f =
       let g = subst (λ (t : Rows). IsFirst (DecidesOrders t w.pair o) (λ (c : Carried). c) (carried_each o.old o.new) r) e f in
-      first-along (DecidesOrders (cell_system w) w.pair o) IsDecided (λ c. c) carried_of with_carriers (λ c. c) (carried_each o.old o.new) r r
-      (λ c b x. whole b w x) (λ c. refl) g (λ k. k) (λ d k. k)
+      first-along (DecidesOrders (cell_system w) w.pair o) (IsDecided k) (λ c. c) carried_of with_carriers (λ c. c) (carried_each o.old o.new) r r
+      (λ c b x. whole b w x) (λ c. refl) g (λ h. h) (λ d h. h)
 
-  pub accesses-answer : (w : SameCell one other first second) (s : Rows) (answer : Result (Option Carried) (Stop Excess)) → s ≡ cell_system w
-      → IfOk answer (λ r. IsFirst (DecidesOrders s w.pair o) (λ (c : Carried). c) (carried_each o.old o.new) r) → IfOk answer (λ r. IsFirstCarried (of_accesses one other o first second) r)
+  pub accesses-answer : (w : SameCell k one other first second) (s : Rows) (answer : Result (Option Carried) (Stop Excess)) → s ≡ cell_system w
+      → IfOk answer (λ r. IsFirst (DecidesOrders s w.pair o) (λ (c : Carried). c) (carried_each o.old o.new) r) → IfOk answer (λ r. IsFirstCarried k (of_accesses one other o first second) r)
   accesses-answer w s (Ok r) e f = accesses-whole w s r e f
   accesses-answer w s (Err x) e f = tt
 
 -- the accesses with two numbers
-module _ (o : Orders) (one other : Side) (i j : ℕ) where
+module _ (k : Kernel) (o : Orders) (one other : Side) (i j : ℕ) where
   pub pieces-both : (first second : Access) (r : Option Carried) → slice_get one.accesses i ≡ Some first → slice_get other.accesses j ≡ Some second
-      → IsFirstCarried (of_accesses one other o first second) r → IsFirstCarried (of_pieces o i j one other) r
+      → IsFirstCarried k (of_accesses one other o first second) r → IsFirstCarried k (of_pieces o i j one other) r
   unfolding of_pieces
   pieces-both first second r e f w = rw (e, f) w
 
   pub pieces-answer : (first second : Access) (answer : Result (Option Carried) (Stop Excess)) → slice_get one.accesses i ≡ Some first → slice_get other.accesses j ≡ Some second
-      → IfOk answer (λ r. IsFirstCarried (of_accesses one other o first second) r) → IfOk answer (λ r. IsFirstCarried (of_pieces o i j one other) r)
+      → IfOk answer (λ r. IsFirstCarried k (of_accesses one other o first second) r) → IfOk answer (λ r. IsFirstCarried k (of_pieces o i j one other) r)
   pieces-answer first second (Ok r) e f w = pieces-both first second r e f w
   pieces-answer first second (Err x) e f w = tt
 
-  pub pieces-lacking : (length one.accesses ≤ i) ⊎ (length other.accesses ≤ j) → IsFirstCarried (of_pieces o i j one other) None
+  pub pieces-lacking : (length one.accesses ≤ i) ⊎ (length other.accesses ≤ j) → IsFirstCarried k (of_pieces o i j one other) None
   unfolding of_pieces
   pieces-lacking (inl h) = rw (slice_get_past one.accesses i h) none
   pieces-lacking (inr h) = rw (slice_get_past other.accesses j h) (of_first (slice_get one.accesses i))
     where
-      of_first : (x : Option Access) → IsFirstCarried (with_both x None (of_accesses one other o)) None
+      of_first : (x : Option Access) → IsFirstCarried k (with_both x None (of_accesses one other o)) None
       of_first None = none
       of_first (Some x) = none
 
 -- two statements
-module _ (from to : ℕ) (cell : Access) (cs : List Candidate) where
-  pub between-some : (c : Carried) (r : Option Carried) → r ≡ Some c → IsFirstCarried cs r
-      → IsFirstDependence (map (between from to cell) cs) (Some (record { from = from; to = to; array = cell.array; old_level = c.old; new_level = c.new }))
-  between-some c r q w = first-along IsDecided IsDecidedBetween carried_of dependence (between from to cell) (λ (d : Carried). record { from = from; to = to; array = cell.array; old_level = d.old; new_level = d.new })
-      cs r (Some (record { from = from; to = to; array = cell.array; old_level = c.old; new_level = c.new })) (λ d b x. x) (λ d. refl) w (λ e. absurd (cc)) (λ d e. let k : d ≡ c = cc in rw k refl)
+module _ (k : Kernel) (from to : ℕ) (cell : Access) (cs : List Candidate) where
+  pub between-some : (c : Carried) (r : Option Carried) → r ≡ Some c → IsFirstCarried k cs r
+      → IsFirstDependence k (map (between from to cell) cs) (Some (record { from = from; to = to; array = cell.array; old_level = c.old; new_level = c.new }))
+  between-some c r q w = first-along (IsDecided k) (IsDecidedBetween k) carried_of dependence (between from to cell) (λ (d : Carried). record { from = from; to = to; array = cell.array; old_level = d.old; new_level = d.new })
+      cs r (Some (record { from = from; to = to; array = cell.array; old_level = c.old; new_level = c.new })) (λ d b x. x) (λ d. refl) w (λ e. absurd (cc)) (λ d e. let h : d ≡ c = cc in rw h refl)
 
-  pub between-none : (r : Option Carried) → r ≡ None → IsFirstCarried cs r → IsFirstDependence (map (between from to cell) cs) None
-  between-none r q w = first-along IsDecided IsDecidedBetween carried_of dependence (between from to cell) (λ (d : Carried). record { from = from; to = to; array = cell.array; old_level = d.old; new_level = d.new })
+  pub between-none : (r : Option Carried) → r ≡ None → IsFirstCarried k cs r → IsFirstDependence k (map (between from to cell) cs) None
+  between-none r q w = first-along (IsDecided k) (IsDecidedBetween k) carried_of dependence (between from to cell) (λ (d : Carried). record { from = from; to = to; array = cell.array; old_level = d.old; new_level = d.new })
       cs r None (λ d b x. x) (λ d. refl) w (λ e. refl) (λ d e. absurd (cc))
 
 pub carriers-none : (s : Rows) (p : Pair) (o : Orders) (items : List ℕ) (i : ℕ) → items ≡ o.old → length items ≤ i
@@ -140,26 +140,26 @@ carriers-none s p o items i a l q =
     listed-none (DecidesOrders s p o) (λ (c : Carried). c) (carried_each o.old o.new) (λ (old : ℕ). map (λ (new : ℕ). record { old = old; new = new }) o.new) o.old i (subst (λ (xs : List ℕ). length xs ≤ i) a l) q
 
 -- a loop over the first statements
-module _ (all : List Moved) (i : ℕ) (r : Option Dependence) where
-  pub statement-found : is_some r ≡ true → i < length all → Passed IsDecidedBetween dependence (candidates all) (at_each (of_statement all) i (drop i all))
-      → IfSome (slice_get all i) (λ a. IsFirstDependence (of_statement all i a) r) → IsFirstDependence (candidates all) r
+module _ (k : Kernel) (all : List Moved) (i : ℕ) (r : Option Dependence) where
+  pub statement-found : is_some r ≡ true → i < length all → Passed (IsDecidedBetween k) dependence (candidates all) (at_each (of_statement all) i (drop i all))
+      → IfSome (slice_get all i) (λ a. IsFirstDependence k (of_statement all i a) r) → IsFirstDependence k (candidates all) r
   statement-found e l p w =
-      let k = slice_get_cases all i in
-      elim k.1 [
-        | inl v ↦ each-found-some IsDecidedBetween dependence (candidates all) (of_statement all) all i v.0 r e l (sym v.3) p (rw v.2 at w)
-        | inr v ↦ absurd (omega (arith, v.0))
+      let v = slice_get_cases all i in
+      elim v.1 [
+        | inl u ↦ each-found-some (IsDecidedBetween k) dependence (candidates all) (of_statement all) all i u.0 r e l (sym u.3) p (rw u.2 at w)
+        | inr u ↦ absurd (omega (arith, u.0))
       ]
 
-  pub statement-over : is_some r ≡ false → i < length all → Passed IsDecidedBetween dependence (candidates all) (at_each (of_statement all) i (drop i all))
-      → IfSome (slice_get all i) (λ a. IsFirstDependence (of_statement all i a) r) → Passed IsDecidedBetween dependence (candidates all) (at_each (of_statement all) (i + 1) (drop (i + 1) all))
+  pub statement-over : is_some r ≡ false → i < length all → Passed (IsDecidedBetween k) dependence (candidates all) (at_each (of_statement all) i (drop i all))
+      → IfSome (slice_get all i) (λ a. IsFirstDependence k (of_statement all i a) r) → Passed (IsDecidedBetween k) dependence (candidates all) (at_each (of_statement all) (i + 1) (drop (i + 1) all))
   statement-over e l p w =
-      let k = slice_get_cases all i in
-      elim k.1 [
-        | inl v ↦ each-over-none IsDecidedBetween dependence (candidates all) (of_statement all) all i v.0 r e l (sym v.3) p (rw v.2 at w)
-        | inr v ↦ absurd (omega (arith, v.0))
+      let v = slice_get_cases all i in
+      elim v.1 [
+        | inl u ↦ each-over-none (IsDecidedBetween k) dependence (candidates all) (of_statement all) all i u.0 r e l (sym u.3) p (rw u.2 at w)
+        | inr u ↦ absurd (omega (arith, u.0))
       ]
 
-pub moved-answer : (k : Kernel) (m : Moves) (all items : List Moved) (answer : Result (Option Dependence) (Stop Excess)) → items ≡ all → AreMoved k m all → IfOk answer (λ d. IsFirstDependence (candidates items) d)
-    → IfOk answer (λ d. (moved : List Moved) × AreMoved k m moved × IsFirstDependence (candidates moved) d)
+pub moved-answer : (k : Kernel) (m : Moves) (all items : List Moved) (answer : Result (Option Dependence) (Stop Excess)) → items ≡ all → AreMoved k m all → IfOk answer (λ d. IsFirstDependence k (candidates items) d)
+    → IfOk answer (λ d. (moved : List Moved) × AreMoved k m moved × IsFirstDependence k (candidates moved) d)
 moved-answer k m all items (Ok d) e i f = (all, i, rw e at f)
 moved-answer k m all items (Err x) e i f = tt

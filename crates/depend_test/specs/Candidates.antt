@@ -4,6 +4,7 @@ use Rattle.std.specs.List.{flat_map}
 use Rattle.nest_core.specs.Order.{shared}
 use Rattle.nest_tree.specs.declared.body.Access.{Access}
 use Rattle.nest_tree.specs.declared.fault.Dependence.{Dependence}
+use Rattle.nest_tree.specs.declared.kernel.Kernel.{Kernel}
 use Rattle.depend_test.specs.Conflicts.{conflict}
 use Rattle.depend_test.specs.First.{IsFirst}
 use Rattle.depend_test.specs.Orders.{carriers}
@@ -23,15 +24,15 @@ pub record Candidate : Type 0 where
   pub carried : Carried
 
 -- a candidate is decided by the exclusion of a system with all its rows, or is excluded where an equality of subscripts alone is
-pub data IsDecided (c : Candidate) : Bool → Type 0 where
-  whole : (b : Bool) (w : SameCell c.one c.other c.first c.second) → DecidesOrders (cell_system w) w.pair c.orders c.carried b → IsDecided c b
-  alone : (w : SameCell c.one c.other c.first c.second) → HasExcluded w.pair.first.vars w.equal → IsDecided c true
+pub data IsDecided (k : Kernel) (c : Candidate) : Bool → Type 0 where
+  whole : (b : Bool) (w : SameCell k c.one c.other c.first c.second) → DecidesOrders (cell_system w) w.pair c.orders c.carried b → IsDecided k c b
+  alone : (w : SameCell k c.one c.other c.first c.second) → HasExcluded w.pair.first.vars w.equal → IsDecided k c true
 
 abbrev pub carried_of : Candidate → Carried
 carried_of c = c.carried
 
-abbrev pub IsFirstCarried : List Candidate → Option Carried → Type 0
-IsFirstCarried = IsFirst IsDecided carried_of
+abbrev pub IsFirstCarried : Kernel → List Candidate → Option Carried → Type 0
+IsFirstCarried k = IsFirst (IsDecided k) carried_of
 
 -- the lists that the things of a list give by their numbers, one behind another
 abbrev pub at_each : {A C : Type 0} → (ℕ → A → List C) → ℕ → List A → List C
@@ -88,8 +89,8 @@ pub record Between : Type 0 where
   pub access : Access
   pub candidate : Candidate
 
-abbrev pub IsDecidedBetween : Between → Bool → Type 0
-IsDecidedBetween b = IsDecided b.candidate
+abbrev pub IsDecidedBetween : Kernel → Between → Bool → Type 0
+IsDecidedBetween k b = IsDecided k b.candidate
 
 -- the dependence of an open candidate
 abbrev pub dependence : Between → Dependence
@@ -101,8 +102,8 @@ dependence b = record {
   new_level = b.candidate.carried.new;
 }
 
-abbrev pub IsFirstDependence : List Between → Option Dependence → Type 0
-IsFirstDependence = IsFirst IsDecidedBetween dependence
+abbrev pub IsFirstDependence : Kernel → List Between → Option Dependence → Type 0
+IsFirstDependence k = IsFirst (IsDecidedBetween k) dependence
 
 abbrev pub between : ℕ → ℕ → Access → Candidate → Between
 between from to cell c = record { from = from; to = to; access = cell; candidate = c }

@@ -3,6 +3,7 @@ use Rattle.std.specs.Prelude.{ℕ, Bool, cond, List, [], ◌∷◌}
 use Rattle.c_tree.specs.declared.statement.How.{How}
 use Rattle.nest_tree.specs.declared.body.Access.{Access}
 use Rattle.nest_tree.specs.declared.fault.Dependence.{Dependence}
+use Rattle.nest_tree.specs.declared.kernel.Kernel.{Kernel}
 use Rattle.depend_test.specs.Candidates.{at_each}
 use Rattle.depend_test.specs.Conflicts.{conflict}
 use Rattle.depend_test.specs.Systems.{SameCell, cell_system, with_old, Decides}
@@ -14,8 +15,8 @@ pub record AccessPair : Type 0 where
   pub second : Access
 
 -- two accesses are decided by the exclusion of a system of two instances that differ first at the level
-pub record IsDecidedAt (s : Side) (level : ℕ) (c : AccessPair) (b : Bool) : Type 0 where
-  pub cell : SameCell s s c.first c.second
+pub record IsDecidedAt (k : Kernel) (s : Side) (level : ℕ) (c : AccessPair) (b : Bool) : Type 0 where
+  pub cell : SameCell k s s c.first c.second
   pub decided : Decides (with_old (cell_system cell) cell.pair level level) b
 
 abbrev pub first_access : AccessPair → Access

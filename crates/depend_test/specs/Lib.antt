@@ -3,5 +3,6 @@ pub mod Conflicts
 pub mod First
 pub mod Levels
 pub mod Orders
+pub mod Pairs
 pub mod Sides
 pub mod Systems

@@ -1,50 +1,42 @@
 -- The systems in which two pieces stand.
-use Rattle.std.specs.Prelude.{◌≡◌, ℕ, Bool, true, List, [], ◌∷◌, ◌++◌, length, IsTrue, Any, Ok}
-use Rattle.std.specs.List.{list_all}
-use Rattle.int_rows.specs.declared.row.Aff.{Aff}
+use Rattle.std.specs.Prelude.{◌≡◌, ℕ, Bool, true, List, [], ◌∷◌, map, length, Any, Ok}
 use Rattle.int_rows.specs.declared.row.Row.{Row}
 use Rattle.int_rows.specs.Exclusion.{exclusion}
-use Rattle.int_rows.specs.Systems.{Rows, with_rows, excluded}
-use Rattle.nest_core.specs.Forms.{has_vars}
+use Rattle.int_rows.specs.Systems.{Rows, excluded}
+use Rattle.nest_tree.specs.declared.kernel.Kernel.{Kernel}
 use Rattle.nest_tree.specs.declared.body.Access.{Access}
+use Rattle.nest_systems.specs.Extending.{extended}
+use Rattle.nest_systems.specs.Placing.{placed, seated_levels}
+use Rattle.nest_systems.specs.Seating.{AreSeats}
+use Rattle.depend_test.specs.Pairs.{first_places, second_places, pair_ends, pair_system}
 use Rattle.depend_test.specs.Orders.{equal_rows, order_rows}
 use Rattle.depend_test.specs.declared.side.Side.{Side}
 use Rattle.depend_test.specs.declared.pair.Pair.{Pair}
 use Rattle.depend_test.specs.declared.first.Carried.{Carried}
 use Rattle.depend_test.specs.declared.first.Orders.{Orders}
 
--- a system with further rows behind its own
-abbrev pub extended : Rows → List Row → Rows
-extended s rows = with_rows s (s.rows ++ rows)
-
--- each of the forms has been placed in a system of so many variables
-pub record ArePlaced (vars : ℕ) (forms placed : List Aff) : Type 0 where
-  pub count : length placed ≡ length forms
-  pub widths : IsTrue (list_all (has_vars vars) placed)
-
--- two pieces in one system, with their old levels as forms over it
-pub record IsPair (one other : Side) (p : Pair) : Type 0 where
-  pub vars : p.system.vars ≡ p.first.vars
-  pub second : p.second.vars ≡ p.first.vars
-  pub first_old : ArePlaced p.first.vars one.old p.first_old
-  pub second_old : ArePlaced p.second.vars other.old p.second_old
+-- two pieces in one system, with the forms of which orders are made: their old levels, and their own
+pub record IsPair (k : Kernel) (one other : Side) (p : Pair) : Type 0 where
+  pub first : AreSeats one.instance (first_places (length k.head.params) one.instance other.instance) (pair_ends one.instance other.instance) p.first
+  pub second : AreSeats other.instance (second_places (length k.head.params) one.instance other.instance) (pair_ends one.instance other.instance) p.second
+  pub system : p.system ≡ pair_system k one.instance other.instance p.first p.second
+  pub first_old : p.first_old ≡ map (placed p.first) one.old
+  pub second_old : p.second_old ≡ map (placed p.second) other.old
+  pub first_new : p.first_new ≡ seated_levels p.first
+  pub second_new : p.second_new ≡ seated_levels p.second
 
 -- the rows that two accesses have equal subscripts
-pub record AreEqualSubscripts (p : Pair) (a b : Access) (rows : List Row) : Type 0 where
-  pub first : List Aff
-  pub second : List Aff
-  pub first_placed : ArePlaced p.first.vars a.at first
-  pub second_placed : ArePlaced p.second.vars b.at second
-  pub equal : rows ≡ equal_rows p.first.vars (length first) first second
+abbrev pub subscript_rows : Pair → Access → Access → List Row
+subscript_rows p a b = equal_rows p.first.vars (length a.at) (map (placed p.first) a.at) (map (placed p.second) b.at)
 
 -- two pieces in one system, and the rows that two of their accesses name one cell
-pub record SameCell (one other : Side) (a b : Access) : Type 0 where
+pub record SameCell (k : Kernel) (one other : Side) (a b : Access) : Type 0 where
   pub pair : Pair
   pub equal : List Row
-  pub is_pair : IsPair one other pair
-  pub are_equal : AreEqualSubscripts pair a b equal
+  pub is_pair : IsPair k one other pair
+  pub are_equal : equal ≡ subscript_rows pair a b
 
-abbrev pub cell_system : {one other : Side} {a b : Access} → SameCell one other a b → Rows
+abbrev pub cell_system : {k : Kernel} {one other : Side} {a b : Access} → SameCell k one other a b → Rows
 cell_system w = extended w.pair.system w.equal
 
 -- a system with the old order of the first piece before the second, as a carrier says

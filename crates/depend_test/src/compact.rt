@@ -25,9 +25,9 @@ fn depends(
     second: &Access,
 ) -> Result<bool, SetFault>
     requires { IsSide (length kernel.now.head.params) side.now }
-    ensures { IfOk result (λ is_open. IsDecidedAt side.now level (record { first = first.now; second = second.now }) (not is_open)) }
+    ensures { IfOk result (λ is_open. IsDecidedAt kernel.now side.now level (record { first = first.now; second = second.now }) (not is_open)) }
 {
-    let pair = make_pair(alloc, &kernel.head, kernel.made.as_slice(), side, side)?;
+    let pair = make_pair(alloc, kernel, side, side)?;
     let equal = subscript_rows(alloc, &pair, first, second)?;
     let same = equal.as_slice();
     let system = with_rows(alloc, &pair.system, same)?;
@@ -50,7 +50,7 @@ fn access_depends(
     i: usize,
 ) -> Result<bool, SetFault>
     requires { IsSide (length kernel.now.head.params) side.now }
-    ensures { IfOk result (λ found. IsFirst (IsDecidedAt side.now level) first_access (with_access side.now how i cell.now) (cond found (Some cell.now) None)) }
+    ensures { IfOk result (λ found. IsFirst (IsDecidedAt kernel.now side.now level) first_access (with_access side.now how i cell.now) (cond found (Some cell.now) None)) }
 {
     let cells = side.accesses.as_slice();
     for j in 0..cells.len() {
@@ -74,7 +74,7 @@ fn first_level_dependence(
     level: usize,
 ) -> Result<Option<Dependence>, SetFault>
     requires { IsSide (length kernel.now.head.params) side.now }
-    ensures { IfOk result (λ d. IsFirst (IsDecidedAt side.now level) (level_dependence statement level) (access_pairs side.now how) d) }
+    ensures { IfOk result (λ d. IsFirst (IsDecidedAt kernel.now side.now level) (level_dependence statement level) (access_pairs side.now how) d) }
 {
     let cells = side.accesses.as_slice();
     for i in 0..cells.len() {
@@ -103,7 +103,7 @@ pub fn first_compact_dependence(
     requires shaped { IsShaped kernel.now }
     requires statement { statement < length kernel.now.nests }
     requires level { IfSome (slice_get kernel.now.nests statement) (λ n. (1 ≤ level) × (level ≤ length n.levels)) }
-    ensures { IfOk result (λ d. IfSome (slice_get kernel.now.nests statement) (λ n. (s : SideOf) × IsSame (length kernel.now.head.params) n s × IsFirst (IsDecidedAt s level) (level_dependence statement level) (access_pairs s n.how) d)) }
+    ensures { IfOk result (λ d. IfSome (slice_get kernel.now.nests statement) (λ n. (s : SideOf) × IsSame (length kernel.now.head.params) n s × IsFirst (IsDecidedAt kernel.now s level) (level_dependence statement level) (access_pairs s n.how) d)) }
 {
     let nests = kernel.nests.as_slice();
     let nest = &nests[statement];

@@ -151,7 +151,7 @@ fn first_of_pieces(
 ) -> Result<Option<Carried>, SetFault>
     requires first { IsSide (length kernel.now.head.params) a.now }
     requires second { IsSide (length kernel.now.head.params) b.now }
-    ensures { IfOk result (λ both. spec.IsFirstCarried (spec.of_accesses a.now b.now orders.now first.now second.now) both) }
+    ensures { IfOk result (λ both. spec.IsFirstCarried kernel.now (spec.of_accesses a.now b.now orders.now first.now second.now) both) }
 {
     if orders.old.len() == 0 {
         return Ok(None);
@@ -159,7 +159,7 @@ fn first_of_pieces(
     if orders.new.len() == 0 {
         return Ok(None);
     }
-    let pair = make_pair(alloc, &kernel.head, kernel.made.as_slice(), a, b)?;
+    let pair = make_pair(alloc, kernel, a, b)?;
     let rows = subscript_rows(alloc, &pair, first, second)?;
     let equal = rows.as_slice();
     if has_room(&pair) && any_impossible(alloc, pair.first.vars, equal)? {
@@ -181,7 +181,7 @@ fn first_of_numbers(
 ) -> Result<Option<Carried>, SetFault>
     requires first { IsSide (length kernel.now.head.params) a.now }
     requires second { IsSide (length kernel.now.head.params) b.now }
-    ensures { IfOk result (λ both. spec.IsFirstCarried (spec.of_pieces orders.now i j a.now b.now) both) }
+    ensures { IfOk result (λ both. spec.IsFirstCarried kernel.now (spec.of_pieces orders.now i j a.now b.now) both) }
 {
     let firsts = a.accesses.as_slice();
     let seconds = b.accesses.as_slice();
@@ -206,7 +206,7 @@ fn first_of_piece(
 ) -> Result<Option<Carried>, SetFault>
     requires first { IsSide (length kernel.now.head.params) one.now }
     requires second { IsMoved (length kernel.now.head.params) b.now }
-    ensures { IfOk result (λ both. spec.IsFirstCarried (spec.of_piece a.now b.now i j one.now) both) }
+    ensures { IfOk result (λ both. spec.IsFirstCarried kernel.now (spec.of_piece a.now b.now i j one.now) both) }
 {
     for other in b.sides.as_slice() {
         let orders = orders_of(alloc, a, b, one, other)?;
@@ -229,7 +229,7 @@ fn first_of_accesses(
 ) -> Result<Option<Carried>, SetFault>
     requires first { IsMoved (length kernel.now.head.params) a.now }
     requires second { IsMoved (length kernel.now.head.params) b.now }
-    ensures { IfOk result (λ both. spec.IsFirstCarried (spec.of_numbers a.now b.now i j) both) }
+    ensures { IfOk result (λ both. spec.IsFirstCarried kernel.now (spec.of_numbers a.now b.now i j) both) }
 {
     for one in a.sides.as_slice() {
         let found = first_of_piece(alloc, kernel, a, b, one, i, j)?;
@@ -251,7 +251,7 @@ fn first_of_access(
 ) -> Result<Option<Carried>, SetFault>
     requires first { IsMoved (length kernel.now.head.params) a.now }
     requires second { IsMoved (length kernel.now.head.params) b.now }
-    ensures { IfOk result (λ both. spec.IsFirstCarried (spec.of_access a.now b.now i cell.now) both) }
+    ensures { IfOk result (λ both. spec.IsFirstCarried kernel.now (spec.of_access a.now b.now i cell.now) both) }
 {
     let others = b.accesses.as_slice();
     for j in 0..others.len() {
@@ -277,7 +277,7 @@ fn first_of_statements(
     requires from { from < length all.now }
     requires to { to < length all.now }
     requires moved { AllByRecursion (IsMoved (length kernel.now.head.params)) all.now }
-    ensures { IfOk result (λ d. IfSome (slice_get all.now from) (λ a. IfSome (slice_get all.now to) (λ b. spec.IsFirstDependence (spec.of_statements from a to b) d))) }
+    ensures { IfOk result (λ d. IfSome (slice_get all.now from) (λ a. IfSome (slice_get all.now to) (λ b. spec.IsFirstDependence kernel.now (spec.of_statements from a to b) d))) }
 {
     let a = &all[from];
     let b = &all[to];
@@ -313,7 +313,7 @@ fn first_of_statement(
 ) -> Result<Option<Dependence>, SetFault>
     requires from { from < length all.now }
     requires moved { AllByRecursion (IsMoved (length kernel.now.head.params)) all.now }
-    ensures { IfOk result (λ d. IfSome (slice_get all.now from) (λ a. spec.IsFirstDependence (spec.of_statement all.now from a) d)) }
+    ensures { IfOk result (λ d. IfSome (slice_get all.now from) (λ a. spec.IsFirstDependence kernel.now (spec.of_statement all.now from a) d)) }
 {
     let a = &all[from];
     for to in 0..all.len() {
@@ -334,7 +334,7 @@ pub fn first_dependence_among(
     all: &[Moved],
 ) -> Result<Option<Dependence>, SetFault>
     requires moved { AllByRecursion (IsMoved (length kernel.now.head.params)) all.now }
-    ensures { IfOk result (λ d. spec.IsFirstDependence (spec.candidates all.now) d) }
+    ensures { IfOk result (λ d. spec.IsFirstDependence kernel.now (spec.candidates all.now) d) }
 {
     for from in 0..all.len() {
         let found = first_of_statement(alloc, kernel, all, from)?;
@@ -354,7 +354,7 @@ pub fn first_dependence(
 ) -> Result<Option<Dependence>, SetFault>
     requires shaped { IsShaped kernel.now }
     requires fits { Fits kernel.now moves.now }
-    ensures { IfOk result (λ d. (all : List MovedOf) × AreMoved kernel.now moves.now all × spec.IsFirstDependence (spec.candidates all) d) }
+    ensures { IfOk result (λ d. (all : List MovedOf) × AreMoved kernel.now moves.now all × spec.IsFirstDependence kernel.now (spec.candidates all) d) }
 {
     let all = make_moved(alloc, kernel, moves)?;
     first_dependence_among(alloc, kernel, all.as_slice())

@@ -1,16 +1,17 @@
 -- A statement's part of a system: its rows, and the value ranges of the terms that are variables.
-use Rattle.std.specs.Prelude.{◌≡◌, ℕ, ◌+◌, Bool, ◌&&◌, bytes_eq, List, [], ◌∷◌, length, slice_get, Option, Some, None}
+use Rattle.std.specs.Prelude.{◌≡◌, ℕ, ◌+◌, Bool, ◌&&◌, bytes_eq, List, [], ◌∷◌, ◌++◌, map, replicate, pos, length, slice_get, Option, Some, None}
 use Rattle.std.specs.List.{list_all, flat_map, position_from}
 use Rattle.c_tree.specs.declared.program.Program.{Program}
 use Rattle.int_rows.specs.declared.row.Aff.{Aff}
 use Rattle.int_rows.specs.declared.row.Row.{Row}
+use Rattle.nest_tree.specs.declared.kernel.KernelRow.{KernelRow}
 use Rattle.nest_tree.specs.declared.kernel.Term.{Term}
 use Rattle.nest_tree.specs.declared.made.Made.{Made}
 use Rattle.nest_systems.specs.declared.range.Span.{Span}
 use Rattle.nest_systems.specs.declared.instance.Instance.{Instance}
 use Rattle.nest_systems.specs.Ranges.{Names, value_span}
 use Rattle.nest_systems.specs.Spans.{low_row, high_row, unit_form}
-use Rattle.nest_systems.specs.Begun.{is_zero, is_constant}
+use Rattle.nest_systems.specs.Begun.{is_zero, is_constant, widened}
 
 abbrev pub is_zero_form : Aff → Bool
 is_zero_form f = is_zero f.constant && is_constant f
@@ -57,8 +58,26 @@ name_of_term terms t = name_of (slice_get terms t)
 abbrev pub end_names : Instance → Names
 end_names i = flat_map (name_of_term i.terms) i.chosen.ends
 
--- the part of a statement with these levels and rows
-pub record IsPart (head : Program) (made : List Made) (levels : ℕ) (rows : List Row) (i : Instance) : Type 0 where
+-- a term over so many variables
+abbrev pub widened_term : ℕ → Term → Term
+widened_term vars t = record { array = t.array; at = map (widened vars) t.at }
+
+-- the read array[0] over so many variables
+abbrev pub first_cell : ℕ → List ℕ → Term
+first_cell vars array = record { array = array; at = record { coefs = replicate vars (pos 0); constant = pos 0 } ∷ [] }
+
+-- terms, and behind them the reads array[0] of further arrays, over the variables of them all
+unfoldable pub extended_terms : ℕ → List Term → Names → List Term
+extended_terms vars terms arrays = map (widened_term vars) terms ++ map (first_cell vars) arrays
+
+-- a row of a statement without its own level
+abbrev pub plain_row : KernelRow → Row
+plain_row r = r.row
+
+-- the part of a statement with these levels, terms and rows; further reads count[0] stand behind its terms
+pub record IsPart (head : Program) (made : List Made) (levels : ℕ) (terms : List Term) (rows : List Row) (i : Instance) : Type 0 where
+  pub further : Names
   pub own_levels : i.levels ≡ levels
+  pub own_terms : i.terms ≡ extended_terms (length head.params + levels + length terms + length further) terms further
   pub own_rows : i.rows ≡ rows
   pub ranges : i.ranges ≡ value_rows head made (length head.params + levels) i.terms i.chosen.order

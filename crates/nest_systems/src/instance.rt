@@ -174,7 +174,7 @@ pub fn make_instance(
     requires levels { levels ≤ 8 }
     requires terms { IsTrue (list_all (is_term_over (length head.now.params + levels + length terms.now)) terms.now) }
     requires extras { extras ≤ length terms.now }
-    ensures part { IfOk result (λ i. spec.IsPart head.now made.now levels rows.now i) }
+    ensures part { IfOk result (λ i. spec.IsPart head.now made.now levels terms.now rows.now i) }
     ensures instance { IfOk result (λ i. IsInstance (length head.now.params) i) }
     ensures levels { IfOk result (λ i. i.levels ≡ levels) }
     ensures count { IfOk result (λ i. i.count ≡ length terms.now) }

@@ -1,8 +1,9 @@
 // What is left of a statement's rows at a level when all that comes later is eliminated.
-ghost use Rattle.std.specs.Prelude.{◌≡◌, ◌+◌, ◌<◌, ◌≤◌, drop, length, slice_get, IsTrue, IfOk, IfSome};
+ghost use Rattle.std.specs.Prelude.{◌≡◌, ◌+◌, ◌<◌, ◌≤◌, drop, map, length, slice_get, IsTrue, IfOk, IfSome};
 ghost use Rattle.std.specs.List.{list_all};
 ghost use Rattle.nest_core.specs.Shapes.{is_term_over, vars_of, IsShapedNest, IsShaped};
 ghost use Rattle.nest_systems.specs.Owns.{IsOwn, IsProjection, is_left_over};
+ghost use Rattle.nest_systems.specs.Parts.{plain_row};
 
 use crate::access::{accesses, subscripts};
 use crate::copy::{copy_row, copy_terms};
@@ -26,7 +27,9 @@ pub struct Projection {
 }
 
 /// Copies of the rows of a statement, without their own levels.
-pub fn plain_rows(alloc: Global, rows: &[KernelRow]) -> Result<List<Row>, NoMemory> {
+pub fn plain_rows(alloc: Global, rows: &[KernelRow]) -> Result<List<Row>, NoMemory>
+    ensures { IfOk result (λ copies. copies ≡ map plain_row rows.now) }
+{
     let mut copies = List::new(alloc);
     for row in rows {
         copies.push(copy_row(alloc, &row.row)?)?;

@@ -5,6 +5,7 @@ ghost use Rattle.nest_core.specs.Forms.{has_vars};
 ghost use Rattle.nest_core.specs.Shapes.{is_term_over};
 ghost use Rattle.nest_systems.specs.Sums as spec;
 ghost use Rattle.nest_systems.specs.Begun.{widened};
+ghost use Rattle.nest_systems.specs.Parts.{widened_term, first_cell, extended_terms};
 
 use crate::extent::zero_form;
 use crate::sums::number_at;
@@ -39,7 +40,8 @@ pub fn widened_form(alloc: Global, form: &Aff, vars: usize) -> Result<Aff, NoMem
 fn widened_term(alloc: Global, term: &Term, old: usize, vars: usize) -> Result<Term, NoMemory>
     requires term { IsTrue (is_term_over old term.now) }
     requires more { old ≤ vars }
-    ensures { IfOk result (λ t. IsTrue (is_term_over vars t)) }
+    ensures value { IfOk result (λ t. t ≡ widened_term vars term.now) }
+    ensures width { IfOk result (λ t. IsTrue (is_term_over vars t)) }
 {
     let mut at = List::new(alloc);
     for form in term.at.as_slice() {
@@ -53,7 +55,8 @@ fn widened_term(alloc: Global, term: &Term, old: usize, vars: usize) -> Result<T
 
 /// The read `array[0]`.
 pub fn first_cell(alloc: Global, array: Name, vars: usize) -> Result<Term, NoMemory>
-    ensures { IfOk result (λ t. IsTrue (is_term_over vars t)) }
+    ensures value { IfOk result (λ t. t ≡ first_cell vars array) }
+    ensures width { IfOk result (λ t. IsTrue (is_term_over vars t)) }
 {
     let mut at = List::new(alloc);
     at.push(zero_form(alloc, vars)?)?;
@@ -62,6 +65,7 @@ pub fn first_cell(alloc: Global, array: Name, vars: usize) -> Result<Term, NoMem
 
 /// The terms with the reads `array[0]` of further arrays behind them, over the variables of them all. `first` is the
 /// variable of the first term.
+#[tactic(auto, unfolding(crate::specs::Parts::extended_terms))]
 pub fn extended_terms(
     alloc: Global,
     first: usize,
@@ -70,6 +74,7 @@ pub fn extended_terms(
 ) -> Result<List<Term>, NoMemory>
     requires terms { IsTrue (list_all (is_term_over (first + length terms.now)) terms.now) }
     requires room { first + length terms.now + length arrays.now < 2 ^ 64 }
+    ensures value { IfOk result (λ ts. ts ≡ extended_terms (first + length terms.now + length arrays.now) terms.now arrays.now) }
     ensures count { IfOk result (λ ts. length ts ≡ length terms.now + length arrays.now) }
     ensures terms { IfOk result (λ ts. IsTrue (list_all (is_term_over (first + length terms.now + length arrays.now)) ts)) }
 {

@@ -5,4 +5,4 @@ use Rattle.depend_test.proofs.Firsts.{Passed}
 use Rattle.depend_test.proofs.compact.first_level_dependence.Given as goal
 
 abbrev pub invariant-loop-i : goal.invariant-loop-i
-invariant-loop-i l = Passed (IsDecidedAt l.side l.level) (level_dependence l.statement l.level) (access_pairs l.side l.how) (at_each (with_access l.side l.how) l.i (drop l.i l.side.accesses))
+invariant-loop-i l = Passed (IsDecidedAt l.kernel l.side l.level) (level_dependence l.statement l.level) (access_pairs l.side l.how) (at_each (with_access l.side l.how) l.i (drop l.i l.side.accesses))

@@ -6,13 +6,13 @@ use Rattle.depend_test.proofs.first.first_of_piece.Goals as goal
 
 pub loop-other-init : goal.loop-other-init
 unfolding of_piece
-loop-other-init c = passed-all IsDecided carried_of _
+loop-other-init c = passed-all (IsDecided c.args.kernel.now) carried_of _
 
 pub returns-then-is_some : goal.returns-then-is_some
 returns-then-is_some c =
     let l = rw c.as_slice-other-items.ensures at c.loop-other-test.true in
     let e = rw c.as_slice-other-items.ensures at c.other-item.is in
-    listed-found-some IsDecided carried_of (of_piece c.args.a.now c.args.b.now c.args.i c.args.j c.args.one.now)
+    listed-found-some (IsDecided c.args.kernel.now) carried_of (of_piece c.args.a.now c.args.b.now c.args.i c.args.j c.args.one.now)
     (λ (other : Side). of_pieces (orders_between c.args.a.now c.args.b.now c.args.one.now other) c.args.i c.args.j c.args.one.now other)
     c.args.b.now.sides c.loop-other.other-index c.other-item.result c.in_ok-found.found (sym c.if-is_some.ensures) l e c.loop-other.invariant (rw c.in_ok-orders.ensures at c.in_ok-found.ensures)
 
@@ -20,13 +20,13 @@ pub loop-other-preserved : goal.loop-other-preserved
 loop-other-preserved c =
     let l = rw c.as_slice-other-items.ensures at c.loop-other-test.true in
     let e = rw c.as_slice-other-items.ensures at c.other-item.is in
-    listed-over-none IsDecided carried_of (of_piece c.args.a.now c.args.b.now c.args.i c.args.j c.args.one.now)
+    listed-over-none (IsDecided c.args.kernel.now) carried_of (of_piece c.args.a.now c.args.b.now c.args.i c.args.j c.args.one.now)
     (λ (other : Side). of_pieces (orders_between c.args.a.now c.args.b.now c.args.one.now other) c.args.i c.args.j c.args.one.now other)
     c.args.b.now.sides c.loop-other.other-index c.other-item.result c.in_ok-found.found (sym c.if-is_some.ensures) l e c.loop-other.invariant (rw c.in_ok-orders.ensures at c.in_ok-found.ensures)
 
 pub returns : goal.returns
 returns c =
     let l = rw c.as_slice-other-items.ensures at c.loop-other-test.false in
-    listed-none IsDecided carried_of (of_piece c.args.a.now c.args.b.now c.args.i c.args.j c.args.one.now)
+    listed-none (IsDecided c.args.kernel.now) carried_of (of_piece c.args.a.now c.args.b.now c.args.i c.args.j c.args.one.now)
     (λ (other : Side). of_pieces (orders_between c.args.a.now c.args.b.now c.args.one.now other) c.args.i c.args.j c.args.one.now other)
     c.args.b.now.sides c.loop-other.other-index l c.loop-other.invariant

@@ -4,4 +4,4 @@ use Rattle.depend_test.proofs.Firsts.{Passed}
 use Rattle.depend_test.proofs.first.first_of_statement.Given as goal
 
 abbrev pub invariant-loop-to : goal.invariant-loop-to
-invariant-loop-to l = Passed IsDecidedBetween dependence (of_statement l.all l.from l.a) (at_each (of_other l.from l.a) l.to (drop l.to l.all))
+invariant-loop-to l = Passed (IsDecidedBetween l.kernel) dependence (of_statement l.all l.from l.a) (at_each (of_other l.from l.a) l.to (drop l.to l.all))

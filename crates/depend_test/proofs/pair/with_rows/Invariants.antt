@@ -1,5 +1,5 @@
 use Rattle.std.proofs.Common.{◌≡◌, take}
-use Rattle.depend_test.specs.Systems.{extended}
+use Rattle.nest_systems.specs.Extending.{extended}
 use Rattle.depend_test.proofs.pair.with_rows.Given as goal
 
 abbrev pub invariant-loop-row : goal.invariant-loop-row
