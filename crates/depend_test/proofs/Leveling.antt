@@ -70,8 +70,8 @@ module _ (k : Kernel) (s : Side) (statement level : ℕ) (cell : Access) where
       rw (same cs) at (first-along (IsDecidedAt k s level) (IsDecidedAt k s level) first_access (level_dependence statement level) (λ (c : AccessPair). c) of_access cs None None
       (λ c b x. x) (λ c. refl) w (λ h. refl) (λ a h. absurd (cc)))
 
-pub compact-answer : (k : Kernel) (params statement level : ℕ) (nests : List Nest) (n : Nest) (s : Side) (answer : Result (Option Dependence) (Stop Excess)) → slice_get nests statement ≡ Some n → IsSame params n s
+pub compact-answer : (k : Kernel) (statement level : ℕ) (nests : List Nest) (n : Nest) (s : Side) (answer : Result (Option Dependence) (Stop Excess)) → slice_get nests statement ≡ Some n → IsSame k.head k.made n s
     → IfOk answer (λ d. IsFirst (IsDecidedAt k s level) (level_dependence statement level) (access_pairs s n.how) d)
-    → IfOk answer (λ d. IfSome (slice_get nests statement) (λ m. (t : Side) × IsSame params m t × IsFirst (IsDecidedAt k t level) (level_dependence statement level) (access_pairs t m.how) d))
-compact-answer k params statement level nests n s (Ok d) e i f = rw e (s, i, f)
-compact-answer k params statement level nests n s (Err x) e i f = tt
+    → IfOk answer (λ d. IfSome (slice_get nests statement) (λ m. (t : Side) × IsSame k.head k.made m t × IsFirst (IsDecidedAt k t level) (level_dependence statement level) (access_pairs t m.how) d))
+compact-answer k statement level nests n s (Ok d) e i f = rw e (s, i, f)
+compact-answer k statement level nests n s (Err x) e i f = tt

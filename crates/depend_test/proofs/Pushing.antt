@@ -1,20 +1,13 @@
 -- Rows that are pushed behind a system's own, and a row that stands alone.
-use Rattle.std.proofs.Common.{◌≡◌, ℕ, ◌+◌, ◌<◌, ◌≤◌, Bool, true, false, cond, List, [], ◌∷◌, ◌++◌, length, take, get_or, refl, sym, ap, ◌∙◌, subst, append_assoc, arith, not, nat_lt, eq-eqb, length-append, ◌&&◌}
-use Rattle.std.proofs.lemmas.List.{take_more, take_all, append-nil}
-use Rattle.std.proofs.lemmas.List.Folds.{list_all-append}
-use Rattle.std.specs.Prelude.{Option, Some, None, Result, Ok, Err, IfOk}
-use Rattle.std.specs.List.{position_from, list_all}
+use Rattle.std.proofs.Common.{◌≡◌, ℕ, ◌+◌, ◌<◌, ◌≤◌, Bool, true, List, [], ◌∷◌, ◌++◌, length, take, get_or, refl, sym, ap, ◌∙◌, append_assoc}
+use Rattle.std.proofs.lemmas.List.{take_more, take_all}
+use Rattle.std.specs.Prelude.{Result, Ok, Err, IfOk}
 use Rattle.chill_base.specs.declared.faults.Stop.{Stop}
 use Rattle.int_sets.specs.Answers.{Decides}
-use Rattle.int_rows.specs.Rows.{numbers}
-use Rattle.int_rows.specs.Elimination.{is_small}
 use Rattle.int_rows.specs.Exclusion.{exclusion}
-use Rattle.int_rows.specs.Systems.{Rows, with_rows, pushed, unless_past, excluded}
-use Rattle.int_rows.specs.declared.row.Aff.{Aff}
+use Rattle.int_rows.specs.Systems.{Rows, pushed, excluded}
 use Rattle.int_rows.specs.declared.row.Row.{Row}
 use Rattle.int_rows.specs.declared.row.Excess.{Excess}
-use Rattle.int_rows.specs.declared.row.Excess.TheVariants.{Many}
-use Rattle.nest_core.specs.Forms.{has_vars}
 use Rattle.nest_systems.specs.Extending.{extended}
 use Rattle.nest_systems.proofs.Extending.{pushed-behind}
 use Rattle.depend_test.specs.Systems.{HasExcluded}

@@ -103,7 +103,7 @@ pub fn first_compact_dependence(
     requires shaped { IsShaped kernel.now }
     requires statement { statement < length kernel.now.nests }
     requires level { IfSome (slice_get kernel.now.nests statement) (λ n. (1 ≤ level) × (level ≤ length n.levels)) }
-    ensures { IfOk result (λ d. IfSome (slice_get kernel.now.nests statement) (λ n. (s : SideOf) × IsSame (length kernel.now.head.params) n s × IsFirst (IsDecidedAt kernel.now s level) (level_dependence statement level) (access_pairs s n.how) d)) }
+    ensures { IfOk result (λ d. IfSome (slice_get kernel.now.nests statement) (λ n. (s : SideOf) × IsSame kernel.now.head kernel.now.made n s × IsFirst (IsDecidedAt kernel.now s level) (level_dependence statement level) (access_pairs s n.how) d)) }
 {
     let nests = kernel.nests.as_slice();
     let nest = &nests[statement];

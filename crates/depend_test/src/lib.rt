@@ -15,4 +15,4 @@ mod tests;
 pub use compact::first_compact_dependence;
 pub use first::{first_dependence, first_dependence_among};
 pub use put::{apply_tested, overflow};
-pub use side::{Moved, Side, make_moved, moved_of};
+pub use side::{Moved, Side, make_moved};

@@ -1,12 +1,12 @@
 // What the moves make of a statement, ready for systems.
-ghost use Rattle.std.specs.Prelude.{◌≡◌, ◌≤◌, length, IfOk};
+ghost use Rattle.std.specs.Prelude.{◌≡◌, ◌≤◌, map, length, IfOk, Ok};
 ghost use Rattle.std.specs.List.{AllByRecursion};
 ghost use Rattle.nest_core.specs.Making.{Gives};
 ghost use Rattle.nest_core.specs.Pieces.{pieces_made};
 ghost use Rattle.nest_core.specs.Shapes.{IsShaped, IsShapedNest, FitsNest, Fits};
-ghost use Rattle.nest_systems.specs.Cells.{cells};
 ghost use Rattle.nest_systems.specs.Instances.{IsInstance};
-ghost use Rattle.depend_test.specs.Sides.{IsSide, IsMoved, IsSame};
+ghost use Rattle.nest_systems.specs.Parts.{IsPart, plain_row};
+ghost use Rattle.depend_test.specs.Sides.{IsSide, IsMoved, IsSideOf, IsSame, AreSides, IsMovedBy, AreMoved, own_levels};
 
 use c_tree::{How, Program};
 use chill_base::{List, NoMemory};
@@ -69,9 +69,7 @@ fn make_side(
 ) -> Result<Side, NoMemory>
     requires { IsShapedNest head.now nest.now }
     ensures shape { IfOk result (λ s. IsSide (length head.now.params) s) }
-    ensures accesses { IfOk result (λ s. s.accesses ≡ cells nest.now) }
-    ensures positions { IfOk result (λ s. s.positions ≡ nest.now.positions) }
-    ensures old { IfOk result (λ s. s.old ≡ old) }
+    ensures side { IfOk result (λ s. IsSideOf head.now made.now nest.now old s) }
 {
     let own = accesses(alloc, nest)?;
     let forms = all_forms(alloc, own.as_slice(), old.as_slice())?;
@@ -100,7 +98,8 @@ fn instance_of(
     forms: &[Aff],
 ) -> Result<Instance, NoMemory>
     requires { IsShapedNest head.now nest.now }
-    ensures { IfOk result (λ i. IsInstance (length head.now.params) i) }
+    ensures instance { IfOk result (λ i. IsInstance (length head.now.params) i) }
+    ensures part { IfOk result (λ i. IsPart head.now made.now (length nest.now.levels) nest.now.terms (map plain_row nest.now.rows) i) }
 {
     let rows = plain_rows(alloc, nest.rows.as_slice())?;
     let levels = nest.levels.len();
@@ -116,11 +115,13 @@ fn make_own_sides(
     nests: &[Nest],
     pieces: &[Piece],
 ) -> Result<List<Side>, NoMemory>
-    requires { AllByRecursion (IsShapedNest head.now) nests.now }
-    ensures { IfOk result (λ ss. AllByRecursion (IsSide (length head.now.params)) ss) }
+    requires shaped { AllByRecursion (IsShapedNest head.now) nests.now }
+    requires same { length nests.now ≡ length pieces.now }
+    ensures shapes { IfOk result (λ ss. AllByRecursion (IsSide (length head.now.params)) ss) }
+    ensures sides { IfOk result (λ ss. AreSides head.now made.now nests.now pieces.now ss) }
 {
     let mut sides = List::new(alloc);
-    for i in 0..nests.len().min(pieces.len()) {
+    for i in 0..nests.len() {
         let old = copy_forms(alloc, pieces[i].old.as_slice())?;
         sides.push(make_side(alloc, head, made, &nests[i], old)?)?;
     }
@@ -136,20 +137,29 @@ pub fn same_side(
 ) -> Result<Side, NoMemory>
     requires { IsShapedNest head.now nest.now }
     ensures shape { IfOk result (λ s. IsSide (length head.now.params) s) }
-    ensures same { IfOk result (λ s. IsSame (length head.now.params) nest.now s) }
+    ensures same { IfOk result (λ s. IsSame head.now made.now nest.now s) }
+{
+    let old = own_levels(alloc, head, nest)?;
+    make_side(alloc, head, made, nest, old)
+}
+
+/// The levels of a statement as forms of its own.
+fn own_levels(alloc: Global, head: &Program, nest: &Nest) -> Result<List<Aff>, NoMemory>
+    requires { IsShapedNest head.now nest.now }
+    ensures { IfOk result (λ forms. forms ≡ own_levels head.now nest.now) }
 {
     let params = head.params.as_slice().len();
     let levels = nest.levels.len();
     let vars = params + levels + nest.terms.as_slice().len();
-    let mut old = List::new(alloc);
+    let mut forms = List::new(alloc);
     for level in 0..levels {
-        old.push(unit_form(alloc, params + level, vars)?)?;
+        forms.push(unit_form(alloc, params + level, vars)?)?;
     }
-    make_side(alloc, head, made, nest, old)
+    Ok(forms)
 }
 
 /// A statement and the sides of its pieces, which make these statements.
-pub fn moved_of(
+fn moved_of(
     alloc: Global,
     head: &Program,
     made: &[Made],
@@ -158,8 +168,10 @@ pub fn moved_of(
     pieces: &[Piece],
     nests: &[Nest],
 ) -> Result<Moved, NoMemory>
-    requires { AllByRecursion (IsShapedNest head.now) nests.now }
-    ensures { IfOk result (λ m. IsMoved (length head.now.params) m) }
+    requires shaped { AllByRecursion (IsShapedNest head.now) nests.now }
+    requires makes { pieces_made (length head.now.params) nest.now pieces.now ≡ Ok nests.now }
+    ensures shape { IfOk result (λ m. IsMoved (length head.now.params) m) }
+    ensures moved { IfOk result (λ m. IsMovedBy head.now made.now applies nest.now pieces.now m) }
 {
     Ok(Moved {
         applies,
@@ -182,7 +194,8 @@ fn make_one(
     requires nest { IsShapedNest head.now nest.now }
     requires pieces { AllByRecursion (FitsNest (length head.now.params) nest.now) pieces.now }
     requires some { 1 ≤ length pieces.now }
-    ensures { IfOk result (λ m. IsMoved (length head.now.params) m) }
+    ensures shape { IfOk result (λ m. IsMoved (length head.now.params) m) }
+    ensures moved { IfOk result (λ m. IsMovedBy head.now made.now applies nest.now pieces.now m) }
 {
     let nests = make_own_pieces(alloc, head, nest, pieces)?;
     Ok(moved_of(alloc, head, made, applies, nest, pieces, nests.as_slice())?)
@@ -192,7 +205,8 @@ fn make_one(
 pub fn make_moved(alloc: Global, kernel: &Kernel, moves: &Moves) -> Result<List<Moved>, SetFault>
     requires shaped { IsShaped kernel.now }
     requires fits { Fits kernel.now moves.now }
-    ensures { IfOk result (λ ms. AllByRecursion (IsMoved (length kernel.now.head.params)) ms) }
+    ensures shapes { IfOk result (λ ms. AllByRecursion (IsMoved (length kernel.now.head.params)) ms) }
+    ensures moved { IfOk result (λ ms. AreMoved kernel.now moves.now ms) }
 {
     let nests = kernel.nests.as_slice();
     let pieces = moves.pieces.as_slice();
