@@ -1,5 +1,5 @@
 -- What the moves make of statements.
-use Rattle.std.specs.Prelude.{◌≡◌, ℕ, ◌+◌, Bool, List, [], ◌∷◌, map, length, Ok}
+use Rattle.std.specs.Prelude.{◌≡◌, ℕ, ◌+◌, Bool, List, [], ◌∷◌, ◌++◌, map, length, Ok}
 use Rattle.std.specs.List.{AllByRecursion, range_with_len}
 use Rattle.c_tree.specs.declared.program.Program.{Program}
 use Rattle.int_rows.specs.declared.row.Aff.{Aff}
@@ -9,9 +9,9 @@ use Rattle.nest_tree.specs.declared.made.Made.{Made}
 use Rattle.nest_tree.specs.declared.moves.Moves.{Moves}
 use Rattle.nest_tree.specs.declared.moves.Piece.{Piece}
 use Rattle.nest_core.specs.Pieces.{pieces_made}
-use Rattle.nest_systems.specs.Cells.{cells}
+use Rattle.nest_systems.specs.Cells.{cells, subscripts}
 use Rattle.nest_systems.specs.Instances.{IsInstance}
-use Rattle.nest_systems.specs.Parts.{IsPart, plain_row}
+use Rattle.nest_systems.specs.Statements.{IsPart, plain_row}
 use Rattle.nest_systems.specs.Spans.{unit_form}
 use Rattle.depend_test.specs.declared.side.Side.{Side}
 use Rattle.depend_test.specs.declared.side.Moved.{Moved}
@@ -24,7 +24,7 @@ pub record IsMoved (params : ℕ) (m : Moved) : Type 0 where
 
 -- what a statement gives to systems, with these forms of its old levels
 pub record IsSideOf (head : Program) (made : List Made) (n : Nest) (levels : List Aff) (s : Side) : Type 0 where
-  pub part : IsPart head made (length n.levels) n.terms (map plain_row n.rows) s.instance
+  pub part : IsPart head made (length n.levels) n.terms 0 (map plain_row n.rows) (subscripts (cells n) ++ levels) s.instance
   pub accesses : s.accesses ≡ cells n
   pub positions : s.positions ≡ n.positions
   pub old : s.old ≡ levels

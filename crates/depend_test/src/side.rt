@@ -1,11 +1,12 @@
 // What the moves make of a statement, ready for systems.
-ghost use Rattle.std.specs.Prelude.{◌≡◌, ◌≤◌, map, length, IfOk, Ok};
+ghost use Rattle.std.specs.Prelude.{◌≡◌, ◌≤◌, ◌++◌, map, length, IfOk, Ok};
 ghost use Rattle.std.specs.List.{AllByRecursion};
 ghost use Rattle.nest_core.specs.Making.{Gives};
 ghost use Rattle.nest_core.specs.Pieces.{pieces_made};
 ghost use Rattle.nest_core.specs.Shapes.{IsShaped, IsShapedNest, FitsNest, Fits};
 ghost use Rattle.nest_systems.specs.Instances.{IsInstance};
-ghost use Rattle.nest_systems.specs.Parts.{IsPart, plain_row};
+ghost use Rattle.nest_systems.specs.Cells.{subscripts as subscripts_of};
+ghost use Rattle.nest_systems.specs.Statements.{IsPart, plain_row};
 ghost use Rattle.depend_test.specs.Sides.{IsSide, IsMoved, IsSideOf, IsSame, AreSides, IsMovedBy, AreMoved, own_levels};
 
 use c_tree::{How, Program};
@@ -83,7 +84,9 @@ fn make_side(
 }
 
 /// The subscripts of cells, and further forms.
-fn all_forms(alloc: Global, own: &[Access], old: &[Aff]) -> Result<List<Aff>, NoMemory> {
+fn all_forms(alloc: Global, own: &[Access], old: &[Aff]) -> Result<List<Aff>, NoMemory>
+    ensures { IfOk result (λ forms. forms ≡ subscripts_of own.now ++ old.now) }
+{
     let mut forms = subscripts(alloc, own)?;
     forms.append(copy_forms(alloc, old)?)?;
     Ok(forms)
@@ -99,7 +102,7 @@ fn instance_of(
 ) -> Result<Instance, NoMemory>
     requires { IsShapedNest head.now nest.now }
     ensures instance { IfOk result (λ i. IsInstance (length head.now.params) i) }
-    ensures part { IfOk result (λ i. IsPart head.now made.now (length nest.now.levels) nest.now.terms (map plain_row nest.now.rows) i) }
+    ensures part { IfOk result (λ i. IsPart head.now made.now (length nest.now.levels) nest.now.terms 0 (map plain_row nest.now.rows) forms.now i) }
 {
     let rows = plain_rows(alloc, nest.rows.as_slice())?;
     let levels = nest.levels.len();

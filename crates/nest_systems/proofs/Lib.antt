@@ -5,3 +5,5 @@ pub mod Making
 pub mod Totals
 pub mod Extending
 pub mod Raising
+pub mod Ranging
+pub mod Meeting

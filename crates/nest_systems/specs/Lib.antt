@@ -10,4 +10,6 @@ pub mod Placing
 pub mod Extents
 pub mod Begun
 pub mod Parts
+pub mod Choosing
+pub mod Statements
 pub mod Seating

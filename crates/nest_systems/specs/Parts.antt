@@ -1,10 +1,9 @@
 -- A statement's part of a system: its rows, and the value ranges of the terms that are variables.
-use Rattle.std.specs.Prelude.{◌≡◌, ℕ, ◌+◌, Bool, ◌&&◌, bytes_eq, List, [], ◌∷◌, ◌++◌, map, replicate, pos, length, slice_get, Option, Some, None}
+use Rattle.std.specs.Prelude.{ℕ, ◌+◌, Bool, ◌&&◌, bytes_eq, List, [], ◌∷◌, ◌++◌, map, replicate, pos, length, slice_get, Option, Some, None}
 use Rattle.std.specs.List.{list_all, flat_map, position_from}
 use Rattle.c_tree.specs.declared.program.Program.{Program}
 use Rattle.int_rows.specs.declared.row.Aff.{Aff}
 use Rattle.int_rows.specs.declared.row.Row.{Row}
-use Rattle.nest_tree.specs.declared.kernel.KernelRow.{KernelRow}
 use Rattle.nest_tree.specs.declared.kernel.Term.{Term}
 use Rattle.nest_tree.specs.declared.made.Made.{Made}
 use Rattle.nest_systems.specs.declared.range.Span.{Span}
@@ -69,15 +68,3 @@ first_cell vars array = record { array = array; at = record { coefs = replicate 
 -- terms, and behind them the reads array[0] of further arrays, over the variables of them all
 unfoldable pub extended_terms : ℕ → List Term → Names → List Term
 extended_terms vars terms arrays = map (widened_term vars) terms ++ map (first_cell vars) arrays
-
--- a row of a statement without its own level
-abbrev pub plain_row : KernelRow → Row
-plain_row r = r.row
-
--- the part of a statement with these levels, terms and rows; further reads count[0] stand behind its terms
-pub record IsPart (head : Program) (made : List Made) (levels : ℕ) (terms : List Term) (rows : List Row) (i : Instance) : Type 0 where
-  pub further : Names
-  pub own_levels : i.levels ≡ levels
-  pub own_terms : i.terms ≡ extended_terms (length head.params + levels + length terms + length further) terms further
-  pub own_rows : i.rows ≡ rows
-  pub ranges : i.ranges ≡ value_rows head made (length head.params + levels) i.terms i.chosen.order

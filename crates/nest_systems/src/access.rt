@@ -2,7 +2,7 @@
 ghost use Rattle.std.specs.Prelude.{◌≡◌, ◌++◌, reverse, IfOk, OnOk};
 ghost use Rattle.nest_systems.specs.Cells.{cells, reads, subscripts as subscripts_of};
 
-use crate::copy::{copy_form, copy_forms};
+use crate::copy::copy_forms;
 use chill_base::{List, NoMemory};
 use int_rows::Aff;
 use nest_tree::{Access, Body, Nest};
@@ -57,12 +57,12 @@ pub fn accesses(alloc: Global, nest: &Nest) -> Result<List<Access>, NoMemory>
 }
 
 /// Copies of all subscripts of cells, in order.
-pub fn subscripts(alloc: Global, accesses: &[Access]) -> Result<List<Aff>, NoMemory> {
+pub fn subscripts(alloc: Global, accesses: &[Access]) -> Result<List<Aff>, NoMemory>
+    ensures { IfOk result (λ forms. forms ≡ subscripts_of accesses.now) }
+{
     let mut forms = List::new(alloc);
     for access in accesses {
-        for form in access.at.as_slice() {
-            forms.push(copy_form(alloc, form)?)?;
-        }
+        forms.append(copy_forms(alloc, access.at.as_slice())?)?;
     }
     Ok(forms)
 }

@@ -1,7 +1,10 @@
 // Which terms of a statement are variables of a system, and in which order.
-ghost use Rattle.std.specs.Prelude.{◌≡◌, ◌+◌, ◌<◌, ◌^◌, length, replicate, None, IsTrue, IfOk, IfSome, OnOk};
-ghost use Rattle.std.specs.List.{list_all};
+ghost use Rattle.std.specs.Prelude.{◌≡◌, ◌+◌, ◌<◌, ◌^◌, not, map, length, replicate, slice_get, Some, None, IsTrue, IfOk, IfSome, OnOk};
+ghost use Rattle.std.specs.List.{list_all, range_with_len};
 ghost use Rattle.nest_systems.specs.Chosen.{IsChosen, is_within};
+ghost use Rattle.nest_systems.specs.Begun.{is_zero};
+ghost use Rattle.nest_systems.specs.Sums.{number_at as number_of};
+ghost use Rattle.nest_systems.specs.Choosing as spec;
 
 use crate::alike::are_alike;
 use crate::sums::number_at;
@@ -44,7 +47,8 @@ pub fn none_chosen(
     count: usize,
 ) -> Result<Chosen, NoMemory>
     requires room { first + count < 2 ^ 64 }
-    ensures { IfOk result (λ c. IsChosen first count c) }
+    ensures shape { IfOk result (λ c. IsChosen first count c) }
+    ensures value { IfOk result (λ c. c ≡ spec.none_chosen first ends_from count) }
 {
     Ok(Chosen {
         first,
@@ -53,6 +57,16 @@ pub fn none_chosen(
         ends: List::new(alloc),
         same: unmet(alloc, count)?,
     })
+}
+
+/// Whether the terms with two numbers read the same cell.
+fn is_alike(first: usize, terms: &[Term], same: &[Option<usize>], other: usize, term: usize) -> bool
+    requires room { first + length same.now < 2 ^ 64 }
+    requires other { other < length terms.now }
+    requires term { term < length terms.now }
+    ensures { result ≡ spec.is_alike first same.now (slice_get terms.now other) (slice_get terms.now term) }
+{
+    are_alike(first, same, &terms[other], &terms[term])
 }
 
 /// The first of these terms that reads the same cell as a term.
@@ -66,10 +80,11 @@ fn find_alike(
     requires room { first + length same.now < 2 ^ 64 }
     requires among { IsTrue (list_all (is_within (length terms.now)) among.now) }
     requires term { term < length terms.now }
-    ensures { IfSome result (λ t. t < length terms.now) }
+    ensures bound { IfSome result (λ t. t < length terms.now) }
+    ensures value { result ≡ spec.find_alike first terms.now same.now among.now term }
 {
     for other in among {
-        if are_alike(first, same, &terms[*other], &terms[term]) {
+        if is_alike(first, terms, same, *other, term) {
             return Some(*other);
         }
     }
@@ -80,7 +95,8 @@ fn find_alike(
 fn find_met(terms: &[Term], chosen: &Chosen, term: usize) -> Option<usize>
     requires chosen { IsChosen chosen.now.first (length terms.now) chosen.now }
     requires term { term < length terms.now }
-    ensures { IfSome result (λ t. t < length terms.now) }
+    ensures bound { IfSome result (λ t. t < length terms.now) }
+    ensures value { result ≡ spec.find_met terms.now chosen.now term }
 {
     let same = chosen.same.as_slice();
     match find_alike(chosen.first, terms, same, chosen.order.as_slice(), term) {
@@ -94,6 +110,7 @@ fn set_same(chosen: &mut Chosen, term: usize, one: usize)
     requires term { term < length chosen.old.same }
     requires one { one < length chosen.old.same }
     requires chosen { IsChosen chosen.old.first (length chosen.old.same) chosen.old }
+    ensures value { chosen.new ≡ spec.with_same chosen.old term one }
     ensures kept { IsChosen chosen.old.first (length chosen.old.same) chosen.new }
     ensures ends_from { chosen.new.ends_from ≡ chosen.old.ends_from }
     ensures same { length chosen.new.same ≡ length chosen.old.same }
@@ -105,7 +122,8 @@ fn set_same(chosen: &mut Chosen, term: usize, one: usize)
 fn push_order(chosen: &mut Chosen, term: usize) -> Result<(), NoMemory>
     requires term { term < length chosen.old.same }
     requires chosen { IsChosen chosen.old.first (length chosen.old.same) chosen.old }
-    ensures { IsChosen chosen.old.first (length chosen.old.same) chosen.new }
+    ensures kept { IsChosen chosen.old.first (length chosen.old.same) chosen.new }
+    ensures value { OnOk result (chosen.new ≡ spec.in_order chosen.old term) }
 {
     chosen.order.push(term)?;
     Ok(())
@@ -117,6 +135,7 @@ fn push_end(chosen: &mut Chosen, term: usize) -> Result<(), NoMemory>
     requires chosen { IsChosen chosen.old.first (length chosen.old.same) chosen.old }
     ensures kept { IsChosen chosen.old.first (length chosen.old.same) chosen.new }
     ensures same { chosen.new.same ≡ chosen.old.same }
+    ensures value { OnOk result (chosen.new ≡ spec.at_end chosen.old term) }
 {
     chosen.ends.push(term)?;
     Ok(())
@@ -126,7 +145,8 @@ fn push_end(chosen: &mut Chosen, term: usize) -> Result<(), NoMemory>
 fn add(chosen: &mut Chosen, term: usize) -> Result<(), NoMemory>
     requires term { term < length chosen.old.same }
     requires chosen { IsChosen chosen.old.first (length chosen.old.same) chosen.old }
-    ensures { IsChosen chosen.old.first (length chosen.old.same) chosen.new }
+    ensures kept { IsChosen chosen.old.first (length chosen.old.same) chosen.new }
+    ensures value { OnOk result (chosen.new ≡ spec.added chosen.old term) }
 {
     set_same(chosen, term, term);
     if term < chosen.ends_from {
@@ -140,7 +160,8 @@ fn add(chosen: &mut Chosen, term: usize) -> Result<(), NoMemory>
 fn choose(terms: &[Term], chosen: &mut Chosen, term: usize) -> Result<(), NoMemory>
     requires term { term < length terms.now }
     requires chosen { IsChosen chosen.old.first (length terms.now) chosen.old }
-    ensures { IsChosen chosen.old.first (length terms.now) chosen.new }
+    ensures kept { IsChosen chosen.old.first (length terms.now) chosen.new }
+    ensures value { OnOk result (chosen.new ≡ spec.chosen terms.now chosen.old term) }
 {
     match find_met(terms, chosen, term) {
         Some(other) => {
@@ -154,8 +175,16 @@ fn choose(terms: &[Term], chosen: &mut Chosen, term: usize) -> Result<(), NoMemo
 /// Whether a term was met.
 fn is_met(chosen: &Chosen, term: usize) -> bool
     requires { term < length chosen.now.same }
+    ensures { result ≡ spec.is_met chosen.now term }
 {
     chosen.same.as_slice()[term].is_some()
+}
+
+/// Whether a form holds a variable.
+fn is_held(form: &Aff, var: usize) -> bool
+    ensures { result ≡ not (is_zero (number_of form.now.coefs var)) }
+{
+    number_at(form.coefs.as_slice(), var) != 0
 }
 
 /// Meets the terms that a form holds, in their order.
@@ -167,10 +196,11 @@ pub fn meet_form(
     form: &Aff,
 ) -> Result<(), NoMemory>
     requires chosen { IsChosen chosen.old.first (length terms.now) chosen.old }
-    ensures { IsChosen chosen.old.first (length terms.now) chosen.new }
+    ensures kept { IsChosen chosen.old.first (length terms.now) chosen.new }
+    ensures value { OnOk result (chosen.new ≡ spec.over_terms (spec.meet_term terms.now deep) form.now (range_with_len 0 (length terms.now)) chosen.old) }
 {
     for i in 0..terms.len() {
-        if number_at(form.coefs.as_slice(), chosen.first + i) != 0 {
+        if is_held(form, chosen.first + i) {
             meet_term(terms, chosen, deep, i)?;
         }
     }
@@ -182,7 +212,8 @@ pub fn meet_form(
 fn meet_term(terms: &[Term], chosen: &mut Chosen, deep: usize, term: usize) -> Result<(), NoMemory>
     requires term { term < length terms.now }
     requires chosen { IsChosen chosen.old.first (length terms.now) chosen.old }
-    ensures { IsChosen chosen.old.first (length terms.now) chosen.new }
+    ensures kept { IsChosen chosen.old.first (length terms.now) chosen.new }
+    ensures value { OnOk result (chosen.new ≡ spec.meet_term terms.now deep chosen.old term) }
 {
     if is_met(chosen, term) {
         return Ok(());
@@ -202,7 +233,8 @@ pub fn meet_forms(
     forms: &[Aff],
 ) -> Result<(), NoMemory>
     requires chosen { IsChosen chosen.old.first (length terms.now) chosen.old }
-    ensures { IsChosen chosen.old.first (length terms.now) chosen.new }
+    ensures kept { IsChosen chosen.old.first (length terms.now) chosen.new }
+    ensures value { OnOk result (chosen.new ≡ spec.over_forms (spec.meet_term terms.now deep) (length terms.now) forms.now chosen.old) }
 {
     for form in forms {
         meet_form(terms, chosen, deep, form)?;
@@ -213,7 +245,8 @@ pub fn meet_forms(
 /// Meets the terms that rows hold, row by row.
 pub fn meet_rows(terms: &[Term], chosen: &mut Chosen, rows: &[Row]) -> Result<(), NoMemory>
     requires chosen { IsChosen chosen.old.first (length terms.now) chosen.old }
-    ensures { IsChosen chosen.old.first (length terms.now) chosen.new }
+    ensures kept { IsChosen chosen.old.first (length terms.now) chosen.new }
+    ensures value { OnOk result (chosen.new ≡ spec.over_forms (spec.meet_term terms.now (length terms.now)) (length terms.now) (map spec.form_of rows.now) chosen.old) }
 {
     for row in rows {
         meet_form(terms, chosen, terms.len(), &row.form)?;
@@ -225,7 +258,8 @@ pub fn meet_rows(terms: &[Term], chosen: &mut Chosen, rows: &[Row]) -> Result<()
 pub fn choose_end(chosen: &mut Chosen, term: usize) -> Result<(), NoMemory>
     requires term { term < length chosen.old.same }
     requires chosen { IsChosen chosen.old.first (length chosen.old.same) chosen.old }
-    ensures { IsChosen chosen.old.first (length chosen.old.same) chosen.new }
+    ensures kept { IsChosen chosen.old.first (length chosen.old.same) chosen.new }
+    ensures value { OnOk result (chosen.new ≡ spec.end_chosen chosen.old (Some term)) }
 {
     if is_met(chosen, term) {
         return Ok(());
@@ -240,6 +274,7 @@ fn push_same(chosen: &mut Chosen, term: usize) -> Result<(), NoMemory>
     requires term { term ≡ length chosen.old.same }
     requires chosen { IsChosen chosen.old.first (length chosen.old.same) chosen.old }
     ensures kept { OnOk result (IsChosen chosen.old.first (length chosen.old.same + 1) chosen.new) }
+    ensures value { OnOk result (chosen.new ≡ spec.with_more chosen.old term) }
 {
     chosen.same.push(Some(term))?;
     Ok(())
@@ -250,6 +285,7 @@ pub fn choose_more(chosen: &mut Chosen) -> Result<(), NoMemory>
     requires room { chosen.old.first + length chosen.old.same + 1 < 2 ^ 64 }
     requires chosen { IsChosen chosen.old.first (length chosen.old.same) chosen.old }
     ensures kept { OnOk result (IsChosen chosen.old.first (length chosen.old.same + 1) chosen.new) }
+    ensures value { OnOk result (chosen.new ≡ spec.one_more chosen.old) }
 {
     let term = chosen.same.len();
     push_same(chosen, term)?;

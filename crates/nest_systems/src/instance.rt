@@ -1,10 +1,12 @@
 // A statement's part of a system.
-ghost use Rattle.std.specs.Prelude.{◌≡◌, ◌+◌, ◌<◌, ◌≤◌, ◌^◌, ◌++◌, length, IsTrue, IfOk, OnOk};
+ghost use Rattle.std.specs.Prelude.{◌≡◌, ◌+◌, ◌<◌, ◌≤◌, ◌^◌, ◌++◌, filter, length, IsTrue, IfOk, OnOk};
 ghost use Rattle.std.specs.List.{list_all};
 ghost use Rattle.nest_core.specs.Shapes.{is_term_over};
 ghost use Rattle.nest_systems.specs.Chosen.{is_within, IsChosen};
 ghost use Rattle.nest_systems.specs.Instances.{IsInstance};
 ghost use Rattle.nest_systems.specs.Parts as spec;
+ghost use Rattle.nest_systems.specs.Statements.{IsPart};
+ghost use Rattle.nest_systems.specs.Choosing as choosing;
 
 use crate::choose::{Chosen, choose_end, choose_more, meet_forms, meet_rows, none_chosen};
 use crate::copy::copy_rows;
@@ -34,6 +36,7 @@ pub struct Instance {
 }
 
 /// The terms that rows and forms hold.
+#[tactic(auto, unfolding(crate::specs::Choosing::chosen_of))]
 fn chosen_of(
     alloc: Global,
     first: usize,
@@ -44,7 +47,8 @@ fn chosen_of(
 ) -> Result<Chosen, NoMemory>
     requires extras { extras ≤ length terms.now }
     requires room { first + length terms.now < 2 ^ 64 }
-    ensures { IfOk result (λ c. IsChosen first (length terms.now) c) }
+    ensures shape { IfOk result (λ c. IsChosen first (length terms.now) c) }
+    ensures value { IfOk result (λ c. c ≡ choosing.chosen_of first terms.now extras rows.now forms.now) }
 {
     let mut chosen = none_chosen(alloc, first, terms.len() - extras, terms.len())?;
     meet_rows(terms, &mut chosen, rows)?;
@@ -60,7 +64,9 @@ fn choose_counts(
     counts: &[Name],
 ) -> Result<List<Name>, NoMemory>
     requires { IsChosen chosen.old.first (length terms.now) chosen.old }
-    ensures { IsChosen chosen.old.first (length terms.now) chosen.new }
+    ensures kept { IsChosen chosen.old.first (length terms.now) chosen.new }
+    ensures value { OnOk result (chosen.new ≡ choosing.counts_chosen terms.now counts.now chosen.old) }
+    ensures missing { IfOk result (λ names. names ≡ filter (choosing.is_missing terms.now) counts.now) }
 {
     let mut missing = List::new(alloc);
     for name in counts {
@@ -76,12 +82,35 @@ fn choose_counts(
 fn choose_each(chosen: &mut Chosen, more: usize) -> Result<(), NoMemory>
     requires room { chosen.old.first + length chosen.old.same + more < 2 ^ 64 }
     requires chosen { IsChosen chosen.old.first (length chosen.old.same) chosen.old }
-    ensures { OnOk result (IsChosen chosen.old.first (length chosen.old.same + more) chosen.new) }
+    ensures kept { OnOk result (IsChosen chosen.old.first (length chosen.old.same + more) chosen.new) }
+    ensures value { OnOk result (chosen.new ≡ choosing.and_more more chosen.old) }
 {
     for _ in 0..more {
         choose_more(chosen)?;
     }
     Ok(())
+}
+
+/// Adds the reads `count[0]` that the value ranges of chosen terms need, at the very end, and tells the arrays of those
+/// that aren't terms.
+#[tactic(auto, unfolding(crate::specs::Choosing::with_counts))]
+fn add_counts(
+    alloc: Global,
+    head: &Program,
+    made: &[Made],
+    terms: &[Term],
+    chosen: &mut Chosen,
+) -> Result<List<Name>, NoMemory>
+    requires first { chosen.old.first < 2 ^ 62 }
+    requires chosen { IsChosen chosen.old.first (length terms.now) chosen.old }
+    ensures kept { IfOk result (λ names. IsChosen chosen.old.first (length terms.now + length names) chosen.new) }
+    ensures value { OnOk result (chosen.new ≡ choosing.with_counts head.now made.now terms.now chosen.old) }
+    ensures missing { IfOk result (λ names. names ≡ choosing.missing_of head.now made.now terms.now chosen.old) }
+{
+    let counts = value_counts(alloc, head, made, terms, chosen.order.as_slice())?;
+    let missing = choose_counts(alloc, terms, chosen, counts.as_slice())?;
+    choose_each(chosen, missing.len())?;
+    Ok(missing)
 }
 
 fn count_var(first: usize, terms: &[Term], count: Option<Name>) -> Option<usize>
@@ -174,7 +203,7 @@ pub fn make_instance(
     requires levels { levels ≤ 8 }
     requires terms { IsTrue (list_all (is_term_over (length head.now.params + levels + length terms.now)) terms.now) }
     requires extras { extras ≤ length terms.now }
-    ensures part { IfOk result (λ i. spec.IsPart head.now made.now levels terms.now rows.now i) }
+    ensures part { IfOk result (λ i. IsPart head.now made.now levels terms.now extras rows.now forms.now i) }
     ensures instance { IfOk result (λ i. IsInstance (length head.now.params) i) }
     ensures levels { IfOk result (λ i. i.levels ≡ levels) }
     ensures count { IfOk result (λ i. i.count ≡ length terms.now) }
@@ -183,11 +212,9 @@ pub fn make_instance(
     let first = head.params.as_slice().len() + levels;
     let old = first + terms.len();
     let mut chosen = chosen_of(alloc, first, terms, extras, rows, forms)?;
-    let counts = value_counts(alloc, head, made, terms, chosen.order.as_slice())?;
-    let missing = choose_counts(alloc, terms, &mut chosen, counts.as_slice())?;
+    let missing = add_counts(alloc, head, made, terms, &mut chosen)?;
     let vars = old + missing.as_slice().len();
     let all = extended_terms(alloc, first, terms, missing.as_slice())?;
-    choose_each(&mut chosen, missing.len())?;
     let order = chosen.order.as_slice();
     let ranges = value_rows(alloc, head, made, first, all.as_slice(), order)?;
     Ok(Instance {

@@ -3,7 +3,7 @@ ghost use Rattle.std.specs.Prelude.{◌≡◌, ◌+◌, ◌<◌, ◌≤◌, drop
 ghost use Rattle.std.specs.List.{list_all};
 ghost use Rattle.nest_core.specs.Shapes.{is_term_over, vars_of, IsShapedNest, IsShaped};
 ghost use Rattle.nest_systems.specs.Owns.{IsOwn, IsProjection, is_left_over};
-ghost use Rattle.nest_systems.specs.Parts.{plain_row};
+ghost use Rattle.nest_systems.specs.Statements.{plain_row};
 
 use crate::access::{accesses, subscripts};
 use crate::copy::{copy_row, copy_terms};

@@ -1,5 +1,5 @@
 use Rattle.std.proofs.Common.{◌≡◌, map, take}
-use Rattle.nest_systems.specs.Parts.{plain_row}
+use Rattle.nest_systems.specs.Statements.{plain_row}
 use Rattle.nest_systems.proofs.project.plain_rows.Given as goal
 
 abbrev pub invariant-loop-row : goal.invariant-loop-row
