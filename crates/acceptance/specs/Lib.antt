@@ -1,0 +1,15 @@
+pub mod Expressions
+pub mod Affine
+pub mod Sizes
+pub mod Brackets
+pub mod Forms
+pub mod Visits
+pub mod Around
+pub mod Judged
+pub mod Limits
+pub mod Systems
+pub mod Rows
+pub mod Whole
+pub mod Statements
+pub mod Inside
+pub mod Accepted

@@ -1,0 +1,2 @@
+//! Executors as plain data, for definitions that go down an executor (definitions alone).
+#![tactic(auto)]
