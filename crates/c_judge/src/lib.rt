@@ -13,6 +13,3 @@ mod uses;
 
 pub use faults::{LimitWhat, NameWhy, ProgramFault};
 pub use rules::judge;
-
-#[cfg(test)]
-mod tests;

@@ -9,8 +9,6 @@ mod read;
 mod sections;
 mod signature;
 mod statement;
-#[cfg(test)]
-mod tests;
 mod value;
 mod words;
 

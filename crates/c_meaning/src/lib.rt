@@ -10,6 +10,3 @@ mod view;
 pub use eval::{eval_index, eval_subscripts, eval_test};
 pub use fault::EvalFault;
 pub use view::View;
-
-#[cfg(test)]
-mod tests;

@@ -10,6 +10,3 @@ mod statement;
 
 pub use level::Level;
 pub use program::print_program;
-
-#[cfg(test)]
-mod tests;

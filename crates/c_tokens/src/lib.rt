@@ -9,10 +9,8 @@ mod token;
 mod tokens;
 
 pub use laws::spelling_reads_back;
+pub use pieces::{Margin, Piece, first_piece};
 pub use prelude::{PRELUDE, prelude_lines};
 pub use signs::{longest_sign, spelling};
 pub use token::{Sign, Token};
 pub use tokens::{Tokens, Unexpected};
-
-#[cfg(test)]
-mod tests;

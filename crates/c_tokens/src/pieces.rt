@@ -248,6 +248,7 @@ fn hash(margin: Margin, text: &[u8]) -> Piece
     }
 }
 
+/// The piece at the front of a text that isn't empty, where it stands so in its line.
 #[tactic(auto, unfolding(crate::specs::Pieces::piece))]
 pub fn first_piece(margin: Margin, text: &[u8]) -> Piece
     requires { 1 ≤ length text.now }

@@ -7,6 +7,3 @@ mod left_side;
 mod line;
 
 pub use line::print_assignment;
-
-#[cfg(test)]
-mod tests;

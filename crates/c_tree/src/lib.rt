@@ -5,8 +5,6 @@ mod data;
 mod index;
 mod program;
 mod statement;
-#[cfg(test)]
-mod tests;
 
 pub use data::Expr;
 pub use index::{Cell, Index, Subscripts};

@@ -10,8 +10,6 @@ mod name;
 mod outside;
 mod padding;
 mod place;
-#[cfg(test)]
-mod tests;
 mod whole;
 
 pub use faults::{Failed, NoMemory, Stop};

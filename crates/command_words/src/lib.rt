@@ -3,8 +3,6 @@
 
 mod number;
 mod request;
-#[cfg(test)]
-mod tests;
 mod words;
 
 pub use request::{Request, WordsFault, request_of};

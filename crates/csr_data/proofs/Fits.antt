@@ -16,7 +16,7 @@ use Rattle.c_meaning.specs.Scope.{Scope, fits}
 use Rattle.c_meaning.proofs.Equations.{fits-Const, fits-Var, fits-Neg, fits-Plus, fits-Minus, fits-Times, fits-Min, fits-Max, fits-Floor, fits-Ceil}
 use Rattle.c_meaning.proofs.Fitting.{and_left, and_right}
 use Rattle.csr_data.specs.Divisors.{has_divisors}
-use Rattle.csr_data.proofs.Induction.{Cases, induct}
+use Rattle.c_meaning.proofs.Indices.{Cases, induct}
 use Rattle.csr_data.proofs.Divisors.{divisors_neg, divisors_plus, divisors_minus, divisors_times, divisors_min, divisors_max, divisors_floor, divisors_ceil}
 
 -- where neither has a fault, the first has none, and the second has none

@@ -6,7 +6,6 @@ pub mod Bytes
 pub mod Told
 pub mod Small
 pub mod Cells
-pub mod Induction
 pub mod Divisors
 pub mod Fits
 pub mod Weights

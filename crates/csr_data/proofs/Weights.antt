@@ -21,7 +21,7 @@ use Rattle.c_meaning.proofs.Fitting.{and_left, and_right}
 use Rattle.csr_data.specs.declared.values.Parameter.{Parameter}
 use Rattle.csr_data.specs.Parameters.{has, sight_of, AreSmall}
 use Rattle.csr_data.specs.Signature.{is_small}
-use Rattle.csr_data.proofs.Induction.{Cases, induct}
+use Rattle.c_meaning.proofs.Indices.{Cases, induct}
 
 -- a value that its weight covers, which is at most n
 record IsWithin (n : ℕ) (w : Weighed) : Type 0 where

@@ -13,8 +13,6 @@ mod reduce;
 mod replace;
 mod signs;
 mod system;
-#[cfg(test)]
-mod tests;
 mod views;
 
 pub use system::{SetFault, System};

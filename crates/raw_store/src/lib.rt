@@ -8,6 +8,3 @@ mod store;
 
 pub use grid::Grid;
 pub use store::Cells;
-
-#[cfg(test)]
-mod tests;

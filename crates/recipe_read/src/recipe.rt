@@ -95,6 +95,3 @@ pub fn read_recipe(alloc: Global, text: &[u8]) -> Result<List<Command>, Stop<Rec
     }
     Ok(commands)
 }
-
-#[cfg(test)]
-mod tests;
