@@ -6,7 +6,8 @@ use Rattle.std.proofs.Math.Facts.{leb_yes}
 use Rattle.c_tree.specs.declared.program.Program.{Program}
 use Rattle.nest_tree.specs.declared.kernel.Kernel.{Kernel}
 use Rattle.nest_tree.specs.declared.kernel.Nest.{Nest}
-use Rattle.nest_core.specs.Order.{shared, shares_loop, next_positions, numbered, numbered_after}
+use Rattle.nest_core.specs.Order.{shares_loop, next_positions, numbered, numbered_after}
+use Rattle.nest_tree.specs.Carriers.{shared}
 use Rattle.nest_core.specs.Shapes.{IsShapedNest, IsShaped}
 use Rattle.nest_core.proofs.Counting.{at_most, next-at_most}
 use Rattle.nest_core.proofs.Sharing.{shared-second_below}

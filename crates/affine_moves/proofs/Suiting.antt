@@ -10,7 +10,8 @@ use Rattle.c_tree.specs.declared.program.Program.{Program}
 use Rattle.nest_tree.specs.declared.fault.ShapeWhy.{ShapeWhy}
 use Rattle.nest_tree.specs.declared.kernel.Nest.{Nest}
 use Rattle.nest_tree.specs.declared.moves.Moves.{Moves}
-use Rattle.nest_core.specs.Order.{shared, shares_loop}
+use Rattle.nest_core.specs.Order.{shares_loop}
+use Rattle.nest_tree.specs.Carriers.{shared}
 use Rattle.nest_core.specs.Shapes.{IsShapedNest}
 use Rattle.nest_core.proofs.Sharing.{shared-second_below}
 use Rattle.affine_moves.specs.declared.change.Change.{Change}

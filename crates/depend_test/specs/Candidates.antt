@@ -1,7 +1,7 @@
 -- The candidates for a dependence, in the order in which they are looked at.
 use Rattle.std.specs.Prelude.{ℕ, ◌+◌, Bool, true, cond, ◌||◌, List, [], ◌∷◌, ◌++◌, map, slice_get, Option, Some, None}
 use Rattle.std.specs.List.{flat_map}
-use Rattle.nest_core.specs.Order.{shared}
+use Rattle.nest_tree.specs.Carriers.{shared}
 use Rattle.nest_tree.specs.declared.body.Access.{Access}
 use Rattle.nest_tree.specs.declared.fault.Dependence.{Dependence}
 use Rattle.nest_tree.specs.declared.kernel.Kernel.{Kernel}

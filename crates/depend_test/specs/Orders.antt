@@ -3,7 +3,8 @@ use Rattle.std.specs.Prelude.{ℕ, zero, suc, ◌+◌, Bool, true, false, cond, 
 use Rattle.std.specs.List.{range_with_len}
 use Rattle.int_rows.specs.declared.row.Aff.{Aff}
 use Rattle.int_rows.specs.declared.row.Row.{Row}
-use Rattle.nest_core.specs.Order.{shared, is_earlier}
+use Rattle.nest_core.specs.Order.{is_earlier}
+use Rattle.nest_tree.specs.Carriers.{shared}
 use Rattle.nest_systems.specs.Sums.{number_at, stopped_difference}
 
 abbrev pub from_one : ℕ → ℕ

@@ -1,7 +1,8 @@
 // The order of two instances.
 ghost use Rattle.std.specs.Prelude.{◌≡◌, ◌∷◌, ◌++◌, [], cond, map, length, IfOk, IsTrue};
 ghost use Rattle.std.specs.List.{list_all, range_with_len};
-ghost use Rattle.nest_core.specs.Order.{is_earlier, shared};
+ghost use Rattle.nest_core.specs.Order.{is_earlier};
+ghost use Rattle.nest_tree.specs.Carriers.{shared};
 ghost use Rattle.nest_systems.specs.Owns.{row_has_vars};
 ghost use Rattle.depend_test.specs.Orders as spec;
 

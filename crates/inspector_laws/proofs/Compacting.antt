@@ -25,11 +25,11 @@ use Rattle.inspector_runs.specs.Shown.{Agrees, Gives, Fits, Left, cleared, Sizes
 use Rattle.inspector_runs.specs.Laws.{sizes}
 use Rattle.inspector_runs.proofs.Values.{inside_long, measure_read, value_by, value_var}
 use Rattle.inspector_runs.proofs.Heads.{lines_leave, no_rows}
-use Rattle.inspector_laws.specs.Ready.{Holds, NamesFit, arrays_of, IsSmallForm, group_of, compacted}
+use Rattle.inspector_laws.specs.Ready.{Holds, NamesFit, arrays_of, IsSmallForm, group_of, start_count, mark_count, compacted}
 use Rattle.inspector_laws.specs.Laws.{CompactLinesLeaveKeptValues}
 use Rattle.inspector_laws.proofs.Bounded.{Bounded, bounded_as, bounded_plain, bounded_const, bounded_var, bounded_plus, value_bounded, value_covered, natural, bounded_natural}
 use Rattle.inspector_laws.proofs.Sums.{part, large}
-use Rattle.inspector_laws.proofs.Expressions.{loops_of, row_there, other_there, SeesAll, value_has, offset_has, width_has, any_width, width_some, group_has, next_has, pointers_has}
+use Rattle.inspector_laws.proofs.Expressions.{loops_of, row_there, other_there, SeesAll, value_has, offset_has, width_has, any_width, width_some, any_marks, some_marks, group_has, next_has, pointers_has}
 use Rattle.inspector_laws.proofs.Matrices.{first_rises, next_first, place_in, all_entries, group_inside, below_natural}
 
 -- the expressions of the lines
@@ -218,13 +218,14 @@ module _ (x : Matrix) (cols_first : Bool) (f : Form) (b : Arrays) (c : Env) (m :
             bounded_natural (width (compacted x cols_first f)) (sight_of c m') ((greatest_value f a -ℤ least_value f a) +ℤ pos 1) (10 * part + 1)
             (width_has x cols_first f a (sight_of c m') m0 q k (subst (λ r. Bounded (Var x.rows) (sight_of c m') (pos r) large) q (rows_bounded m')) (cols_bounded m') (λ z. sym q ∙ square z))
 
-    with_rows : Goes (run (kept_lines b (text_of x cols_first f) (loops_of x) (starts_of x f) (marks_of x cols_first f)) c) m (suc m0 + sum_below (count a) (suc m0)) (Left b (cleared b m) (map (placed f (λ e. [])) (entries_before a (suc m0))) (groups_by f.rows (suc m0)))
+    with_rows : Goes (run (kept_lines b (text_of x cols_first f) (loops_of x) (starts_of x f) (marks_of x cols_first f)) c) m (suc m0 + sum_below (count a) (suc m0)) (Left b (start_count f a) (mark_count f a) (cleared b m) (map (placed f (λ e. [])) (entries_before a (suc m0))) (groups_by f.rows (suc m0)))
     with_rows =
-        subst (λ g. Goes (run (kept_lines b (text_of x cols_first f) (loops_of x) (starts_of x f) (marks_of x cols_first f)) c) m (suc m0 + sum_below (count a) (suc m0)) (Left b (cleared b m) (map (placed f (λ e. [])) (entries_before a (suc m0))) g)) (sym (groups_above f.rows m0))
-        (subst (λ es. Goes (run (kept_lines b (text_of x cols_first f) (loops_of x) (starts_of x f) (marks_of x cols_first f)) c) m (suc m0 + sum_below (count a) (suc m0)) (Left b (cleared b m) es (suc (group_by f.rows m0)))) (met_is f (λ e. []) a (suc m0))
+        subst (λ g. Goes (run (kept_lines b (text_of x cols_first f) (loops_of x) (starts_of x f) (marks_of x cols_first f)) c) m (suc m0 + sum_below (count a) (suc m0)) (Left b (start_count f a) (mark_count f a) (cleared b m) (map (placed f (λ e. [])) (entries_before a (suc m0))) g)) (sym (groups_above f.rows m0))
+        (subst (λ es. Goes (run (kept_lines b (text_of x cols_first f) (loops_of x) (starts_of x f) (marks_of x cols_first f)) c) m (suc m0 + sum_below (count a) (suc m0)) (Left b (start_count f a) (mark_count f a) (cleared b m) es (suc (group_by f.rows m0)))) (met_is f (λ e. []) a (suc m0))
+        (subst (λ k. Goes (run (kept_lines b (text_of x cols_first f) (loops_of x) (starts_of x f) (marks_of x cols_first f)) c) m (suc m0 + sum_below (count a) (suc m0)) (Left b (start_count f a) k (cleared b m) (met_before (walk f (λ e. []) a) (suc m0)) (suc (group_by f.rows m0)))) (some_marks f a m0 q)
         (lines_leave b (text_of x cols_first f) (loops_of x) (starts_of x f) (marks_of x cols_first f) c m (least_value f a) (suc (groups_by f.rows a.rows)) (natural ((greatest_value f a -ℤ least_value f a) +ℤ pos 1)) m0 a.first (walk f (λ e. []) a)
         sizes_fit
-        (subst (λ r. Fits b (text_of x cols_first f) (loops_of x) c (cleared b m) (sizes (least_value f a) (suc (groups_by f.rows a.rows)) (natural ((greatest_value f a -ℤ least_value f a) +ℤ pos 1))) r a.first (walk f (λ e. []) a)) q (fits (λ e. [])))))
+        (subst (λ r. Fits b (text_of x cols_first f) (loops_of x) c (cleared b m) (sizes (least_value f a) (suc (groups_by f.rows a.rows)) (natural ((greatest_value f a -ℤ least_value f a) +ℤ pos 1))) r a.first (walk f (λ e. []) a)) q (fits (λ e. []))))))
 
   -- no rows
   module _ (q : a.rows ≡ 0) where
@@ -260,17 +261,19 @@ module _ (x : Matrix) (cols_first : Bool) (f : Form) (b : Arrays) (c : Env) (m :
       small = up 2 (large + 2) greatest (omega arith) next_fits;
     }
 
-    without_rows : (g : ℕ) → Goes (run (kept_lines b (text_of x cols_first f) (loops_of x) (starts_of x f) (marks_of x cols_first f)) c) m 0 (Left b (cleared b m) [] g)
-    without_rows g = no_rows b (text_of x cols_first f) (loops_of x) (starts_of x f) (marks_of x cols_first f) c m (pos 0) (suc (groups_by f.rows a.rows)) (natural (any_width f a.rows a.cols)) g a.first (walk f (λ e. []) a) none_fit (fits_none (λ e. []))
+    without_rows : (g : ℕ) → Goes (run (kept_lines b (text_of x cols_first f) (loops_of x) (starts_of x f) (marks_of x cols_first f)) c) m 0 (Left b (start_count f a) (mark_count f a) (cleared b m) [] g)
+    without_rows g =
+        subst (λ k. Goes (run (kept_lines b (text_of x cols_first f) (loops_of x) (starts_of x f) (marks_of x cols_first f)) c) m 0 (Left b (start_count f a) k (cleared b m) [] g)) (any_marks f a)
+        (no_rows b (text_of x cols_first f) (loops_of x) (starts_of x f) (marks_of x cols_first f) c m (pos 0) (suc (groups_by f.rows a.rows)) (natural (any_width f a.rows a.cols)) g a.first (walk f (λ e. []) a) none_fit (fits_none (λ e. [])))
 
-  by_rows : (r : ℕ) → a.rows ≡ r → Goes (run (kept_lines b (text_of x cols_first f) (loops_of x) (starts_of x f) (marks_of x cols_first f)) c) m (r + sum_below (count a) r) (Left b (cleared b m) (map (placed f (λ e. [])) (entries_before a r)) (groups_by f.rows r))
+  by_rows : (r : ℕ) → a.rows ≡ r → Goes (run (kept_lines b (text_of x cols_first f) (loops_of x) (starts_of x f) (marks_of x cols_first f)) c) m (r + sum_below (count a) r) (Left b (start_count f a) (mark_count f a) (cleared b m) (map (placed f (λ e. [])) (entries_before a r)) (groups_by f.rows r))
   by_rows zero q = without_rows q (groups_by f.rows 0)
   by_rows (suc r) q = with_rows r q
 
-  whole : Goes (run (kept_lines b (text_of x cols_first f) (loops_of x) (starts_of x f) (marks_of x cols_first f)) c) m (a.rows + a.first a.rows) (Left b (cleared b m) (map (placed f (λ e. [])) (entries a)) (groups f a))
-  whole = subst (λ t. Goes (run (kept_lines b (text_of x cols_first f) (loops_of x) (starts_of x f) (marks_of x cols_first f)) c) m (a.rows + t) (Left b (cleared b m) (map (placed f (λ e. [])) (entries a)) (groups f a))) (all_entries a h.is_csr a.rows (omega arith)) (by_rows a.rows refl)
+  whole : Goes (run (kept_lines b (text_of x cols_first f) (loops_of x) (starts_of x f) (marks_of x cols_first f)) c) m (a.rows + a.first a.rows) (Left b (start_count f a) (mark_count f a) (cleared b m) (map (placed f (λ e. [])) (entries a)) (groups f a))
+  whole = subst (λ t. Goes (run (kept_lines b (text_of x cols_first f) (loops_of x) (starts_of x f) (marks_of x cols_first f)) c) m (a.rows + t) (Left b (start_count f a) (mark_count f a) (cleared b m) (map (placed f (λ e. [])) (entries a)) (groups f a))) (all_entries a h.is_csr a.rows (omega arith)) (by_rows a.rows refl)
 
 pub compact_leaves : CompactLinesLeaveKeptValues
 compact_leaves x cols_first f b c m a h n k =
-    subst (λ ts. Goes (run ts c) m (a.rows + a.first a.rows) (Left (arrays_of b) (cleared (arrays_of b) m) (map (placed f (λ e. [])) (entries a)) (groups f a))) (sym (lines_are x cols_first f b))
+    subst (λ ts. Goes (run ts c) m (a.rows + a.first a.rows) (Left (arrays_of b) (start_count f a) (mark_count f a) (cleared (arrays_of b) m) (map (placed f (λ e. [])) (entries a)) (groups f a))) (sym (lines_are x cols_first f b))
     (whole x cols_first f (arrays_of b) c m a h n k)

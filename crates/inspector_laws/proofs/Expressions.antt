@@ -20,10 +20,10 @@ use Rattle.sparse_marks.specs.Forms.{Form, group_by, groups_by, value_at, least_
 use Rattle.sparse_marks.proofs.Telling.{groups_above}
 use Rattle.inspector_runs.specs.Texts.{Loops}
 use Rattle.inspector_runs.specs.Shown.{row_env, turn_env}
-use Rattle.inspector_laws.specs.Ready.{IsSmallForm, group_of, compacted}
-use Rattle.inspector_laws.proofs.Bounded.{Bounded, bounded_as, bounded_const, bounded_plus, bounded_minus, bounded_floor, bounded_ceil}
+use Rattle.inspector_laws.specs.Ready.{IsSmallForm, group_of, value_count, mark_count, compacted}
+use Rattle.inspector_laws.proofs.Bounded.{Bounded, natural, not_negative, bounded_as, bounded_const, bounded_plus, bounded_minus, bounded_floor, bounded_ceil}
 use Rattle.inspector_laws.proofs.Sums.{part, large, sum_value, text_has}
-use Rattle.inspector_laws.proofs.Numbers.{kept, falling_is, rising_is, value_small, low_small, high_small, offset_small, width_small, value_is, low_is, high_is, offset_is, width_is, by_one}
+use Rattle.inspector_laws.proofs.Numbers.{kept, falling_is, rising_is, value_small, low_small, high_small, offset_small, width_small, value_is, low_is, high_is, offset_is, width_is, low_any, high_any, width_any, by_one}
 
 -- the loops over a matrix
 abbrev pub loops_of : Matrix → Loops
@@ -190,3 +190,45 @@ pointers_has x zero s n w b = bounded_const (pos 2) s (w + 2) (omega arith)
 pointers_has x (suc k) s n w b =
     bounded_as _ s _ _ (w + 1) (w + 2) (let e : pos (groups_by (suc k) n) +ℤ pos 1 ≡ pos (suc (groups_by (suc k) n)) = grind (arith, ints) in e) (omega arith)
     (bounded_plus _ (Const (pos 1)) s (pos (groups_by (suc k) n)) (pos 1) w 1 (above_has k x.rows s n w b) (bounded_const (pos 1) s 1 (omega arith)))
+
+-- it is how many values there are from the least to the greatest one
+pub any_is : (f : Form) (a : Csr) → any_width f a.rows a.cols ≡ value_count f a
+any_is f a = by _ refl
+  where
+    from_least : (int_div_euclid (((pos a.cols -ℤ pos 1) +ℤ f.s0) +ℤ (rising f.c *ℤ (pos a.rows -ℤ pos 1))) (pos f.divisor) -ℤ int_div_euclid (f.s0 +ℤ (falling f.c *ℤ (pos a.rows -ℤ pos 1))) (pos f.divisor)) +ℤ pos 1 ≡ value_count f a
+    from_least =
+        ap (λ z. (int_div_euclid (((pos a.cols -ℤ pos 1) +ℤ f.s0) +ℤ (z *ℤ (pos a.rows -ℤ pos 1))) (pos f.divisor) -ℤ int_div_euclid (f.s0 +ℤ (falling f.c *ℤ (pos a.rows -ℤ pos 1))) (pos f.divisor)) +ℤ pos 1) (rising_is f.c)
+        ∙ ap (λ z. (int_div_euclid (((pos a.cols -ℤ pos 1) +ℤ f.s0) +ℤ (int_max (pos 0) f.c *ℤ (pos a.rows -ℤ pos 1))) (pos f.divisor) -ℤ int_div_euclid (f.s0 +ℤ (z *ℤ (pos a.rows -ℤ pos 1))) (pos f.divisor)) +ℤ pos 1) (falling_is f.c)
+
+    by : (b : Bool) → int_eq (pos f.divisor) (pos 1) ≡ b
+        → cond b (sum_value (width_sum (kept f)) 0 a.rows a.cols 0) ((int_div_euclid (sum_value (high_sum (kept f)) 0 a.rows a.cols 0) (pos f.divisor) -ℤ int_div_euclid (sum_value (low_sum (kept f)) 0 a.rows a.cols 0) (pos f.divisor)) +ℤ pos 1) ≡ value_count f a
+    by true q =
+        let t : f.divisor ≡ 1 = number f.divisor ((Decides-int_eq (pos f.divisor) (pos 1)).0 q) in
+        width_any f a.rows a.cols
+        ∙ ap (λ y. (y -ℤ (f.s0 +ℤ (falling f.c *ℤ (pos a.rows -ℤ pos 1)))) +ℤ pos 1) (one_quotient (((pos a.cols -ℤ pos 1) +ℤ f.s0) +ℤ (rising f.c *ℤ (pos a.rows -ℤ pos 1))) f.divisor t)
+        ∙ ap (λ y. (int_div_euclid (((pos a.cols -ℤ pos 1) +ℤ f.s0) +ℤ (rising f.c *ℤ (pos a.rows -ℤ pos 1))) (pos f.divisor) -ℤ y) +ℤ pos 1) (one_quotient (f.s0 +ℤ (falling f.c *ℤ (pos a.rows -ℤ pos 1))) f.divisor t)
+        ∙ from_least
+      where
+        number : (n : ℕ) → pos n ≡ pos 1 → n ≡ 1
+        number n e = cc
+    by false q =
+        ap (λ y. (int_div_euclid y (pos f.divisor) -ℤ int_div_euclid (sum_value (low_sum (kept f)) 0 a.rows a.cols 0) (pos f.divisor)) +ℤ pos 1) (high_any f a.rows a.cols)
+        ∙ ap (λ y. (int_div_euclid (((pos a.cols -ℤ pos 1) +ℤ f.s0) +ℤ (rising f.c *ℤ (pos a.rows -ℤ pos 1))) (pos f.divisor) -ℤ int_div_euclid y (pos f.divisor)) +ℤ pos 1) (low_any f a.rows a.cols)
+        ∙ from_least
+
+-- and in some rows
+pub some_is : (f : Form) (a : Csr) (m : ℕ) → a.rows ≡ suc m → (greatest_value f a -ℤ least_value f a) +ℤ pos 1 ≡ value_count f a
+some_is f a m h =
+    let less : pos (a.rows - 1) ≡ pos a.rows -ℤ pos 1 = by_rows a.rows m h in
+    ap (λ y. (int_div_euclid (((pos a.cols -ℤ pos 1) +ℤ f.s0) +ℤ (int_max (pos 0) f.c *ℤ y)) (pos f.divisor) -ℤ least_value f a) +ℤ pos 1) less
+    ∙ ap (λ y. (int_div_euclid (((pos a.cols -ℤ pos 1) +ℤ f.s0) +ℤ (int_max (pos 0) f.c *ℤ (pos a.rows -ℤ pos 1))) (pos f.divisor) -ℤ int_div_euclid (f.s0 +ℤ (int_min (pos 0) f.c *ℤ y)) (pos f.divisor)) +ℤ pos 1) less
+  where
+    by_rows : (n m : ℕ) → n ≡ suc m → pos (n - 1) ≡ pos n -ℤ pos 1
+    by_rows n m e = ap (λ k. pos (k - 1)) e ∙ ap pos (less_one m) ∙ (let l : pos m ≡ pos (suc m) -ℤ pos 1 = grind (arith, ints) in l) ∙ ap (λ k. pos k -ℤ pos 1) (sym e)
+
+-- as many marks as are made
+pub any_marks : (f : Form) (a : Csr) → pos (natural (any_width f a.rows a.cols)) ≡ mark_count f a
+any_marks f a = sym (not_negative (any_width f a.rows a.cols)) ∙ ap (λ v. int_max (pos 0) v) (any_is f a)
+
+pub some_marks : (f : Form) (a : Csr) (m : ℕ) → a.rows ≡ suc m → pos (natural ((greatest_value f a -ℤ least_value f a) +ℤ pos 1)) ≡ mark_count f a
+some_marks f a m h = sym (not_negative ((greatest_value f a -ℤ least_value f a) +ℤ pos 1)) ∙ ap (λ v. int_max (pos 0) v) (some_is f a m h)

@@ -118,6 +118,10 @@ times_one (negsuc n) = ap (λ k. neg_ℤ (pos k)) (mul-one (suc n))
 last_row : (z : ℤ) (m : ℕ) → z *ℤ pos (suc m) ≡ (z *ℤ pos m) +ℤ z
 last_row z m = ap (λ x. z *ℤ x) (let e : pos (suc m) ≡ pos m +ℤ pos 1 = grind (arith, ints) in e) ∙ times_sum z (pos m) (pos 1) ∙ ap (λ x. (z *ℤ pos m) +ℤ x) (times_one z)
 
+-- the same by one row less, of any number of rows
+any_row : (z y : ℤ) → z *ℤ y ≡ (z *ℤ (y -ℤ pos 1)) +ℤ z
+any_row z y = ap (λ x. z *ℤ x) (let e : y ≡ (y -ℤ pos 1) +ℤ pos 1 = omega (arith, ints) in e) ∙ times_sum z (y -ℤ pos 1) (pos 1) ∙ ap (λ x. (z *ℤ (y -ℤ pos 1)) +ℤ x) (times_one z)
+
 value_line : (A b c J s0 : ℤ) (j : ℕ) → b ≡ pos 0 → c ≡ pos 0 → J ≡ pos j → (((pos 0 +ℤ A) +ℤ (b +ℤ c)) +ℤ J) +ℤ s0 ≡ (pos j +ℤ A) +ℤ s0
 value_line A b c J s0 j p q r = omega (arith, ints, p, q, r)
 
@@ -130,11 +134,18 @@ low_line a b c F X Y s0 p q r h = omega (arith, ints, p, q, r, h)
 pub low_is : (f : Form) (r m k j : ℕ) → sum_value (low_sum (kept f)) r (suc m) k j ≡ f.s0 +ℤ (falling f.c *ℤ pos m)
 low_is f r m k j = low_line (pos 0 *ℤ pos r) (pos 0 *ℤ pos k) (pos 0 *ℤ pos j) (falling f.c) (falling f.c *ℤ pos (suc m)) (falling f.c *ℤ pos m) f.s0 (zero_of r) (zero_of k) (zero_of j) (last_row (falling f.c) m)
 
+-- of any number of rows
+pub low_any : (f : Form) (n k : ℕ) → sum_value (low_sum (kept f)) 0 n k 0 ≡ f.s0 +ℤ (falling f.c *ℤ (pos n -ℤ pos 1))
+low_any f n k = low_line (pos 0 *ℤ pos 0) (pos 0 *ℤ pos k) (pos 0 *ℤ pos 0) (falling f.c) (falling f.c *ℤ pos n) (falling f.c *ℤ (pos n -ℤ pos 1)) f.s0 (zero_of 0) (zero_of k) (zero_of 0) (any_row (falling f.c) (pos n))
+
 high_line : (a c R X Y K s0 : ℤ) (k : ℕ) → a ≡ pos 0 → c ≡ pos 0 → K ≡ pos k → X ≡ Y +ℤ R → (((pos 0 +ℤ a) +ℤ (X +ℤ K)) +ℤ c) +ℤ ((s0 -ℤ pos 1) -ℤ R) ≡ ((pos k -ℤ pos 1) +ℤ s0) +ℤ Y
 high_line a c R X Y K s0 k p q r h = omega (arith, ints, p, q, r, h)
 
 pub high_is : (f : Form) (r m k j : ℕ) → sum_value (high_sum (kept f)) r (suc m) k j ≡ ((pos k -ℤ pos 1) +ℤ f.s0) +ℤ (rising f.c *ℤ pos m)
 high_is f r m k j = high_line (pos 0 *ℤ pos r) (pos 0 *ℤ pos j) (rising f.c) (rising f.c *ℤ pos (suc m)) (rising f.c *ℤ pos m) (pos 1 *ℤ pos k) f.s0 k (zero_of r) (zero_of j) (one_of k) (last_row (rising f.c) m)
+
+pub high_any : (f : Form) (n k : ℕ) → sum_value (high_sum (kept f)) 0 n k 0 ≡ ((pos k -ℤ pos 1) +ℤ f.s0) +ℤ (rising f.c *ℤ (pos n -ℤ pos 1))
+high_any f n k = high_line (pos 0 *ℤ pos 0) (pos 0 *ℤ pos 0) (rising f.c) (rising f.c *ℤ pos n) (rising f.c *ℤ (pos n -ℤ pos 1)) (pos 1 *ℤ pos k) f.s0 k (zero_of 0) (zero_of 0) (one_of k) (any_row (rising f.c) (pos n))
 
 offset_line : (A N b J F X Y s0 : ℤ) (j : ℕ) → N ≡ neg_ℤ X → b ≡ pos 0 → J ≡ pos j → X ≡ Y +ℤ F → (((pos 0 +ℤ A) +ℤ (N +ℤ b)) +ℤ J) +ℤ F ≡ ((pos j +ℤ A) +ℤ s0) -ℤ (s0 +ℤ Y)
 offset_line A N b J F X Y s0 j p q r h = omega (arith, ints, p, q, r, h)
@@ -154,6 +165,13 @@ width_is f r m k j =
     (zero_of r) (zero_of j) (one_of k)
     (sum_times (rising f.c) (neg_ℤ (falling f.c)) (pos (suc m)) ∙ ap (λ x. (rising f.c *ℤ pos (suc m)) +ℤ x) (neg_times (falling f.c) (pos (suc m))))
     (last_row (rising f.c) m) (last_row (falling f.c) m)
+
+pub width_any : (f : Form) (n k : ℕ) → sum_value (width_sum (kept f)) 0 n k 0 ≡ ((((pos k -ℤ pos 1) +ℤ f.s0) +ℤ (rising f.c *ℤ (pos n -ℤ pos 1))) -ℤ (f.s0 +ℤ (falling f.c *ℤ (pos n -ℤ pos 1)))) +ℤ pos 1
+width_any f n k =
+    width_line (pos 0 *ℤ pos 0) (pos 0 *ℤ pos 0) ((rising f.c -ℤ falling f.c) *ℤ pos n) (pos 1 *ℤ pos k) (rising f.c) (falling f.c) (rising f.c *ℤ pos n) (falling f.c *ℤ pos n) (rising f.c *ℤ (pos n -ℤ pos 1)) (falling f.c *ℤ (pos n -ℤ pos 1)) f.s0 k
+    (zero_of 0) (zero_of 0) (one_of k)
+    (sum_times (rising f.c) (neg_ℤ (falling f.c)) (pos n) ∙ ap (λ x. (rising f.c *ℤ pos n) +ℤ x) (neg_times (falling f.c) (pos n)))
+    (any_row (rising f.c) (pos n)) (any_row (falling f.c) (pos n))
 
 -- a quotient by 1
 pub by_one : (x : ℤ) → int_div_euclid x (pos 1) ≡ x

@@ -367,18 +367,21 @@ module _ (x : Matrix) (cols_first : Bool) (f : Form) (b : Arrays) (lay : Name) (
 
   -- what is left
   pub laid_out : (groups : ℕ) → Follows (met_before trip a.rows) groups (of_walk.marks_of trip a.rows) → kept groups (met_before trip a.rows) ≡ [] → (m' : Memory) → Now (of_walk.marks_of trip a.rows) (layout trip a.rows) m'
-      → LaidOut b lay tail (pos w ∷ pos u ∷ []) m (met_before trip a.rows) groups m'
+      → LaidOut b (pos ns) (pos nm) lay tail (pos w ∷ pos u ∷ []) m (met_before trip a.rows) groups m'
   laid_out groups g e m' q =
       let s : Marks = of_walk.marks_of trip a.rows in
       let es : List Placed = met_before trip a.rows in
-      let kept_left : Left b (cleared b q.under) es groups m' = left_by b (cleared b q.under) (sizes low ns nm) es groups s m' g e q.shows in
+      let kept_left : Left b (pos ns) (pos nm) (cleared b q.under) es groups m' = left_by b (cleared b q.under) (sizes low ns nm) es groups s m' g e q.shows in
       let total : length s.val ≡ start groups es = ap length (g.val ∙ ap (λ l. kept_before groups es ++ l) e ∙ append-nil _) in
       let hs : HoldsSums es (layout trip a.rows) (length s.val) = holds_all trip (fit m h).rising a.rows in
       record {
         ptr = kept_left.ptr;
         val = kept_left.val;
         num = kept_left.num;
+        mark_long = kept_left.mark_long;
+        ptr_long = kept_left.ptr_long;
         val_long = kept_left.val_long;
+        num_long = kept_left.num_long;
         lay_long = ((q.shows).others).extents lay d.made ∙ q.long_now ∙ ap (λ k. pos k ∷ pos w ∷ pos u ∷ []) total;
         sums = record {
           sums = λ g w o i. cell_is q m' _ o ∙ hs.sums g w o i;

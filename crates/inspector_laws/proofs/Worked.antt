@@ -12,7 +12,7 @@ use Rattle.c_meaning.specs.Run.{run}
 use Rattle.inspectors.specs.Marks.{compact_lines}
 use Rattle.inspectors.specs.Rows.{padded_lines}
 use Rattle.sparse_layouts.specs.Padded.{row_value, row_column}
-use Rattle.inspector_laws.specs.Ready.{Holds, HoldsValues, NamesFit, arrays_of, IsSmallForm, compacted}
+use Rattle.inspector_laws.specs.Ready.{Holds, HoldsValues, NamesFit, arrays_of, IsSmallForm, start_count, mark_count, compacted}
 use Rattle.inspector_laws.specs.Padding.{RowNamesFit, LeftRows}
 use Rattle.inspector_laws.specs.Layouts.{LayoutNamesFit}
 use Rattle.inspector_laws.specs.Examples.{names, parameters, memory, made, row_arrays, lay, compacting, padding, first_cells, in_row, table, row_cells, row_columns}
@@ -122,7 +122,7 @@ diagonals_fit = record { c = omega arith; s0 = omega arith; divisor = omega arit
 abbrev entries_of : Form → List Placed
 entries_of f = map (placed f (λ e. [])) (entries three_by_four)
 
-pub goes : (f : Form) → IsSmallForm f → Goes (run (compact_lines (compacted names false f) made) (parameters three_by_four)) (memory three_by_four) 8 (Left (arrays_of made) (cleared (arrays_of made) (memory three_by_four)) (entries_of f) (groups f three_by_four))
+pub goes : (f : Form) → IsSmallForm f → Goes (run (compact_lines (compacted names false f) made) (parameters three_by_four)) (memory three_by_four) 8 (Left (arrays_of made) (start_count f three_by_four) (mark_count f three_by_four) (cleared (arrays_of made) (memory three_by_four)) (entries_of f) (groups f three_by_four))
 goes f k = compact_leaves names false f made (parameters three_by_four) (memory three_by_four) three_by_four worked_holds worked_names k
 
 -- the first cells of an array by their numbers

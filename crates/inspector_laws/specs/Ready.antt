@@ -1,5 +1,6 @@
 -- A matrix in the arrays of a memory, and a compacted level whose lines run on it.
-use Rattle.std.specs.Prelude.{◌≡◌, ℕ, zero, suc, ◌≤◌, ◌<◌, ◌^◌, pos, Bool, false, unsigned_abs}
+use Rattle.std.specs.Prelude.{◌≡◌, ℕ, zero, suc, ◌≤◌, ◌<◌, ◌^◌, ℤ, pos, ◌+ℤ◌, ◌-ℤ◌, ◌*ℤ◌, Bool, false, unsigned_abs}
+use Rattle.std.specs.Int.{int_div_euclid, int_min, int_max}
 use Rattle.c_tree.specs.declared.program.Matrix.{Matrix}
 use Rattle.c_meaning.specs.Names.{same_name, line}
 use Rattle.c_meaning.specs.Memory.{Memory, Spot, Env}
@@ -9,7 +10,7 @@ use Rattle.inspectors.specs.declared.level.Group.TheVariants.{All, Rows}
 use Rattle.inspectors.specs.declared.names.MarkNames.{MarkNames}
 use Rattle.inspectors.specs.Trees.{row_name, entry_name}
 use Rattle.sparse_marks.specs.Matrices.{Csr, IsCsr}
-use Rattle.sparse_marks.specs.Forms.{Form}
+use Rattle.sparse_marks.specs.Forms.{Form, groups}
 use Rattle.inspector_runs.specs.Texts.{Arrays}
 use Rattle.inspector_runs.specs.Shown.{long, is_made, Apart}
 
@@ -57,6 +58,21 @@ pub record IsSmallForm (f : Form) : Type 0 where
 abbrev pub group_of : ℕ → Group
 group_of zero = All
 group_of (suc k) = Rows (pos (suc k))
+
+-- how many values there are from the least to the greatest one that the form may have in the matrix
+abbrev pub value_count : Form → Csr → ℤ
+value_count f a =
+    (int_div_euclid (((pos a.cols -ℤ pos 1) +ℤ f.s0) +ℤ (int_max (pos 0) f.c *ℤ (pos a.rows -ℤ pos 1))) (pos f.divisor)
+    -ℤ int_div_euclid (f.s0 +ℤ (int_min (pos 0) f.c *ℤ (pos a.rows -ℤ pos 1))) (pos f.divisor))
+    +ℤ pos 1
+
+-- each of these values has a mark
+abbrev pub mark_count : Form → Csr → ℤ
+mark_count f a = int_max (pos 0) (value_count f a)
+
+-- each group has a start, and there is one more for the end of the last
+abbrev pub start_count : Form → Csr → ℤ
+start_count f a = pos (suc (groups f a))
 
 -- the compacted level of a matrix with this form
 abbrev pub compacted : Matrix → Bool → Form → Compacted

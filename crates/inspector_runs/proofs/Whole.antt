@@ -48,21 +48,24 @@ nest_of b x l c base z rows first a f = record {
       };
 }
 
-pub left_by : (b : Arrays) (base : Memory) (z : Sizes) (es : List Placed) (g : ℕ) (s : Marks) (m : Memory) → Follows es g s → kept g es ≡ [] → Shows b z base s m → Left b base es g m
+pub left_by : (b : Arrays) (base : Memory) (z : Sizes) (es : List Placed) (g : ℕ) (s : Marks) (m : Memory) → Follows es g s → kept g es ≡ [] → Shows b z base s m → Left b z.starts z.marks base es g m
 left_by b base z es g s m f n sh =
     let v : s.val ≡ kept_before g es = f.val ∙ ap (λ l. kept_before g es ++ l) n ∙ append-nil _ in
     record {
       ptr = λ h k. sh.ptr h ∙ ap pos (f.ptr h k);
       val = λ p. sh.val p ∙ ap (λ l. nth l p) v;
       num = sh.num ∙ ap (λ l. pos (length l)) v;
+      mark_long = sh.mark_long;
+      ptr_long = sh.ptr_long;
       val_long = sh.val_long ∙ ap (λ l. long (pos (length l))) v;
+      num_long = sh.num_long;
       others = sh.others;
     }
 
 -- it has no fault, makes as many turns as there are rows and entries, and leaves the kept values
 pub marking_goes : (b : Arrays) (x : Text) (l : Loops) (c : Env) (base : Memory) (z : Sizes) (n : ℕ) (first : ℕ → ℕ) (a : Walk)
     → Fits b x l c base z (suc n) first a → (at : Place) (k : ℕ) (m : Memory) → Shows b z base unmarked m
-    → Leads (marking_lines b x l) c at k m (suc n + sum_below a.count (suc n)) (Left b base (met_before a (suc n)) (suc (a.group n)))
+    → Leads (marking_lines b x l) c at k m (suc n + sum_below a.count (suc n)) (Left b z.starts z.marks base (met_before a (suc n)) (suc (a.group n)))
 marking_goes b x l c base z n first a f at k m sh =
     weaker _ c at k m _ _ (Shows b z base (marks_of a (suc n))) _
     refl

@@ -159,13 +159,13 @@ begins_unmarked = record {
 }
 
 -- the laws at the worked matrix
-pub marks : Goes (run_at (marking_lines made text loops) (parameters 3) [] 0) memory 8 (Left made memory (met_before columns 3) 3)
+pub marks : Goes (run_at (marking_lines made text loops) (parameters 3) [] 0) memory 8 (Left made (pos 4) (pos 4) memory (met_before columns 3) 3)
 marks = (leaves made text loops (parameters 3) memory (sizes (pos 0) 4 4) 2 three_by_four.first columns fits_memory [] 0 memory begins_unmarked).goes
 
-pub keeps : Goes (run (kept_lines made text loops (Const (pos 4)) (Const (pos 4))) (parameters 3)) memory 8 (Left made (cleared made memory) (met_before columns 3) 3)
+pub keeps : Goes (run (kept_lines made text loops (Const (pos 4)) (Const (pos 4))) (parameters 3)) memory 8 (Left made (pos 4) (pos 4) (cleared made memory) (met_before columns 3) 3)
 keeps = lines_leave made text loops (Const (pos 4)) (Const (pos 4)) (parameters 3) memory (pos 0) 4 4 2 three_by_four.first columns (sizes_are 3) (fits_cleared 3 (omega arith))
 
-pub keeps_none : Goes (run (kept_lines made text loops (Const (pos 4)) (Const (pos 4))) (parameters 0)) memory 0 (Left made (cleared made memory) [] 3)
+pub keeps_none : Goes (run (kept_lines made text loops (Const (pos 4)) (Const (pos 4))) (parameters 0)) memory 0 (Left made (pos 4) (pos 4) (cleared made memory) [] 3)
 keeps_none = no_rows made text loops (Const (pos 4)) (Const (pos 4)) (parameters 0) memory (pos 0) 4 4 3 three_by_four.first columns (sizes_are 0) (fits_cleared 0 (omega arith))
 
 -- the first cells of an array by their numbers
@@ -179,11 +179,11 @@ cells_are m a f (suc n) h =
     ap (λ l. l ++ m.index a (line (pos n)) ∷ []) (cells_are m a f n (λ k l. h k (omega (arith, l))))
     ∙ ap (λ v. numbers_to f n ++ v ∷ []) (h n (omega arith))
 
-pub starts_are : (base m : Memory) → Left made base (met_before columns 3) 3 m → first_cells m made.ptr 4 ≡ pos 0 ∷ pos 2 ∷ pos 3 ∷ pos 5 ∷ []
+pub starts_are : (base m : Memory) → Left made (pos 4) (pos 4) base (met_before columns 3) 3 m → first_cells m made.ptr 4 ≡ pos 0 ∷ pos 2 ∷ pos 3 ∷ pos 5 ∷ []
 starts_are base m l = cells_are m made.ptr (λ g. pos (start g (met_before columns 3))) 4 (λ g h. l.ptr g (omega (arith, h)))
 
-pub values_are : (base m : Memory) → Left made base (met_before columns 3) 3 m → first_cells m made.val 5 ≡ pos 0 ∷ pos 2 ∷ pos 1 ∷ pos 0 ∷ pos 3 ∷ []
+pub values_are : (base m : Memory) → Left made (pos 4) (pos 4) base (met_before columns 3) 3 m → first_cells m made.val 5 ≡ pos 0 ∷ pos 2 ∷ pos 1 ∷ pos 0 ∷ pos 3 ∷ []
 values_are base m l = cells_are m made.val (nth (kept_before 3 (met_before columns 3))) 5 (λ p h. l.val p)
 
-pub number_is : (base m : Memory) → Left made base (met_before columns 3) 3 m → first_cells m made.num 1 ≡ pos 5 ∷ []
+pub number_is : (base m : Memory) → Left made (pos 4) (pos 4) base (met_before columns 3) 3 m → first_cells m made.num 1 ≡ pos 5 ∷ []
 number_is base m l = ap (λ v. v ∷ []) l.num

@@ -57,12 +57,15 @@ pub record Shows (b : Arrays) (z : Sizes) (base : Memory) (s : Marks) (m : Memor
   pub num_long : m.extents b.num ≡ long (pos 1)
   pub others : Agrees b base m
 
--- the made arrays hold the kept values, and all else is as it was
-pub record Left (b : Arrays) (base : Memory) (es : List Placed) (groups : ℕ) (m : Memory) : Type 0 where
+-- the made arrays hold the kept values, with so many cells for the starts of groups and so many for marks, and all else is as it was
+pub record Left (b : Arrays) (starts marks : ℤ) (base : Memory) (es : List Placed) (groups : ℕ) (m : Memory) : Type 0 where
   pub ptr : (g : ℕ) → g ≤ groups → m.index b.ptr (line (pos g)) ≡ pos (start g es)
   pub val : (p : ℕ) → m.index b.val (line (pos p)) ≡ nth (kept_before groups es) p
   pub num : m.index b.num (line (pos 0)) ≡ pos (start groups es)
+  pub mark_long : m.extents b.mark ≡ long marks
+  pub ptr_long : m.extents b.ptr ≡ long starts
   pub val_long : m.extents b.val ≡ long (pos (start groups es))
+  pub num_long : m.extents b.num ≡ long (pos 1)
   pub others : Agrees b base m
 
 -- in the turn of an entry the expressions have these values: w, which is d above the least value, and group g

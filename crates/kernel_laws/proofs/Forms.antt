@@ -53,7 +53,7 @@ numbers-are cs old v (z ∷ zs) ys (suc k) e h =
     ap (λ (l : List ℤ). coef (suc k) l) b.2 ∙ numbers-are cs old (suc v) zs b.1 k b.4 (omega (arith, h)) ∙ ap (λ (n : ℕ). coef k zs +ℤ int_sum (summands n cs old)) w
 
 -- ---- the number at a place of a form
-index-coef : (xs : List ℤ) (k : ℕ) (d : ℤ) → k < length xs → slice_index_or xs k d ≡ coef k xs
+pub index-coef : (xs : List ℤ) (k : ℕ) (d : ℤ) → k < length xs → slice_index_or xs k d ≡ coef k xs
 index-coef [] k d h = absurd (omega (arith, h))
 index-coef (x ∷ xs) zero d h = refl
 index-coef (x ∷ xs) (suc k) d h = index-coef xs k d (omega (arith, h))
@@ -91,7 +91,7 @@ constant-combined [] fs n = omega (arith, ints)
 constant-combined (c ∷ cs) [] n = omega (arith, ints)
 constant-combined (c ∷ cs) (f ∷ fs) n = let a = constant-combined cs fs n in omega (arith, ints)
 
-coef-past : (xs : List ℤ) (k : ℕ) → length xs ≤ k → coef k xs ≡ pos 0
+pub coef-past : (xs : List ℤ) (k : ℕ) → length xs ≤ k → coef k xs ≡ pos 0
 coef-past [] k h = refl
 coef-past (x ∷ xs) zero h = absurd (omega (arith, h))
 coef-past (x ∷ xs) (suc k) h = coef-past xs k (omega (arith, h))
@@ -104,7 +104,7 @@ dot-nones F (f ∷ fs) (c ∷ cs) h =
     let b = dot-nones F fs cs (λ g m. h g (inr m)) in
     omega (arith, ints)
 
-below_or_not : (k n : ℕ) → (k < n) ⊎ (n ≤ k)
+pub below_or_not : (k n : ℕ) → (k < n) ⊎ (n ≤ k)
 below_or_not k zero = inr (omega arith)
 below_or_not zero (suc n) = inl (omega arith)
 below_or_not (suc k) (suc n) = elim (below_or_not k n) [ inl h ↦ inl (omega arith) | inr h ↦ inr (omega arith) ]

@@ -14,7 +14,7 @@ use Rattle.nest_tree.specs.declared.kernel.KernelRow.{KernelRow}
 use Rattle.nest_tree.specs.declared.moves.Piece.{Piece}
 use Rattle.nest_tree.specs.Lists.{IsIn, Pairwise}
 use Rattle.nest_tree.specs.Forms.{variables}
-use Rattle.nest_tree.specs.Rewriting.{variables_of, HasValue, SaysForm, SaysTerm, SaysRow, SaysAccess, SaysBody, const, at, plus, minus, times, NamesNoTerm}
+use Rattle.nest_tree.specs.Rewriting.{variables_of, SaysForm, SaysTerm, SaysRow, SaysAccess, SaysBody, const, at, plus, minus, times, NamesNoTerm}
 use Rattle.nest_core.specs.declared.form.Frame.{Frame}
 use Rattle.nest_core.specs.Making.{each_made, both_lists}
 use Rattle.nest_core.specs.Forms.{has_vars, new_vars, rewritten, number_judged, numbers_judged, judged_form, or_large}
@@ -25,7 +25,7 @@ use Rattle.nest_core.proofs.Kept.{before_ok, after_ok, both_lists_ok, and}
 use Rattle.nest_core.proofs.Bodies.{made-Const, made-At, made-Plus, made-Minus, made-Times, over-At, over-Plus, over-Minus, over-Times}
 use Rattle.nest_core.proofs.BodiesKept.{induct}
 use Rattle.kernel_laws.specs.Laws.{PieceRewritesStatement}
-use Rattle.kernel_laws.proofs.Forms.{rewritten-has_value, rewritten-says}
+use Rattle.kernel_laws.proofs.Forms.{rewritten-says}
 
 -- what is made of each thing of a list
 pairs_made : {A B E : Type 0} (R : A → B → Type 0) (p : A → Bool) (f : A → Result B E) → ((x : A) (y : B) → p x ≡ true → f x ≡ Ok y → R x y) → (xs : List A) (ys : List B) → list_all p xs ≡ true → each_made f xs ≡ Ok ys → Pairwise R xs ys
@@ -99,9 +99,6 @@ module _ (params d d' nt : ℕ) (old : List Aff) (counts : length old ≡ d) (ea
   form-says : (f g : Aff) → has_vars (params + d + nt) f ≡ true → rewritten frame old f ≡ Ok g → SaysForm olds (params + d) (params + d') f g
   form-says f g h e = rewritten-says params d d' nt old counts each narrow f g (eqb-true (length f.coefs) (params + d + nt) h) e
 
-  form-value : (f g : Aff) → has_vars (params + d + nt) f ≡ true → rewritten frame old f ≡ Ok g → HasValue olds f g
-  form-value f g h e = rewritten-has_value params d d' nt old counts each narrow f g (eqb-true (length f.coefs) (params + d + nt) h) e
-
   row-says : (l : ℕ) (r s : KernelRow) → is_row_over (params + d + nt) l r ≡ true → row_made frame old r ≡ Ok s → SaysRow olds (params + d) (params + d') r s
   row-says l r s h e =
       let a = after_ok (rewritten frame old (r.row).form) _ s e in
@@ -121,37 +118,37 @@ module _ (params d d' nt : ℕ) (old : List Aff) (counts : length old ≡ d) (ea
         at = subst (λ (x : Term). Pairwise (SaysForm olds (params + d) (params + d')) t.at x.at) u_is (pairs_made (SaysForm olds (params + d) (params + d')) (has_vars (params + d + nt)) (rewritten frame old) form-says t.at a.0 (and (list_all (has_vars (params + d + nt)) t.at) _ h).0 a.1);
       }
 
-  access-says : (a b : Access) → is_access_over (params + d + nt) a ≡ true → access_made (rewritten frame old) a ≡ Ok b → SaysAccess olds a b
+  access-says : (a b : Access) → is_access_over (params + d + nt) a ≡ true → access_made (rewritten frame old) a ≡ Ok b → SaysAccess (SaysForm olds (params + d) (params + d')) a b
   access-says a b h e =
       let k = after_ok (each_made (rewritten frame old) a.at) _ b e in
       let b_is : record { array = a.array; at = k.0 } ≡ b = cc in
       record {
         array = ap (λ (x : Access). x.array) (sym b_is);
-        at = subst (λ (x : Access). Pairwise (HasValue olds) a.at x.at) b_is (pairs_made (HasValue olds) (has_vars (params + d + nt)) (rewritten frame old) form-value a.at k.0 (and (list_all (has_vars (params + d + nt)) a.at) _ h).0 k.1);
+        at = subst (λ (x : Access). Pairwise (SaysForm olds (params + d) (params + d')) a.at x.at) b_is (pairs_made (SaysForm olds (params + d) (params + d')) (has_vars (params + d + nt)) (rewritten frame old) form-says a.at k.0 (and (list_all (has_vars (params + d + nt)) a.at) _ h).0 k.1);
       }
 
   abbrev BodySays : Body → Type 0
-  BodySays b = (c : Body) → is_body_over (params + d + nt) b ≡ true → body_made (rewritten frame old) b ≡ Ok c → SaysBody olds b c
+  BodySays b = (c : Body) → is_body_over (params + d + nt) b ≡ true → body_made (rewritten frame old) b ≡ Ok c → SaysBody (SaysForm olds (params + d) (params + d')) b c
 
   body-says : (b : Body) → BodySays b
   body-says = induct BodySays (record {
-    const = λ v c h e. (let m : Ok (Const v) ≡ Ok c = sym (made-Const (rewritten frame old) (Const v) v refl) ∙ e in let is : Const v ≡ c = cc in subst (SaysBody olds (Const v)) is (const v));
+    const = λ v c h e. (let m : Ok (Const v) ≡ Ok c = sym (made-Const (rewritten frame old) (Const v) v refl) ∙ e in let is : Const v ≡ c = cc in subst (SaysBody (SaysForm olds (params + d) (params + d')) (Const v)) is (const v));
     cell = λ a c h e. (
         let m = after_ok (access_made (rewritten frame old) a) _ c (sym (made-At (rewritten frame old) (At a) a refl) ∙ e) in
         let is : At m.0 ≡ c = cc in
-        subst (SaysBody olds (At a)) is (at a m.0 (access-says a m.0 (over-At (params + d + nt) (At a) a refl h) m.1)));
+        subst (SaysBody (SaysForm olds (params + d) (params + d')) (At a)) is (at a m.0 (access-says a m.0 (over-At (params + d + nt) (At a) a refl h) m.1)));
     plus = λ x y p q c h e. (
         let m = both_made_ok Plus (body_made (rewritten frame old) x) (body_made (rewritten frame old) y) c (sym (made-Plus (rewritten frame old) (Plus x y) x y refl) ∙ e) in
         let o = over-Plus (params + d + nt) (Plus x y) x y refl h in
-        subst (SaysBody olds (Plus x y)) (sym m.4) (plus x y m.0 m.1 (p m.0 o.0 m.2) (q m.1 o.1 m.3)));
+        subst (SaysBody (SaysForm olds (params + d) (params + d')) (Plus x y)) (sym m.4) (plus x y m.0 m.1 (p m.0 o.0 m.2) (q m.1 o.1 m.3)));
     minus = λ x y p q c h e. (
         let m = both_made_ok Minus (body_made (rewritten frame old) x) (body_made (rewritten frame old) y) c (sym (made-Minus (rewritten frame old) (Minus x y) x y refl) ∙ e) in
         let o = over-Minus (params + d + nt) (Minus x y) x y refl h in
-        subst (SaysBody olds (Minus x y)) (sym m.4) (minus x y m.0 m.1 (p m.0 o.0 m.2) (q m.1 o.1 m.3)));
+        subst (SaysBody (SaysForm olds (params + d) (params + d')) (Minus x y)) (sym m.4) (minus x y m.0 m.1 (p m.0 o.0 m.2) (q m.1 o.1 m.3)));
     times = λ x y p q c h e. (
         let m = both_made_ok Times (body_made (rewritten frame old) x) (body_made (rewritten frame old) y) c (sym (made-Times (rewritten frame old) (Times x y) x y refl) ∙ e) in
         let o = over-Times (params + d + nt) (Times x y) x y refl h in
-        subst (SaysBody olds (Times x y)) (sym m.4) (times x y m.0 m.1 (p m.0 o.0 m.2) (q m.1 o.1 m.3)));
+        subst (SaysBody (SaysForm olds (params + d) (params + d')) (Times x y)) (sym m.4) (times x y m.0 m.1 (p m.0 o.0 m.2) (q m.1 o.1 m.3)));
   })
 
 -- the parts of a statement that a piece makes
@@ -201,11 +198,12 @@ rewrites head n p alone new shaped fits plain e =
       new_shape = fits.positions;
       forms = fits.counts;
       no_terms = plain.no_terms;
+      levels = ap (λ (x : Nest). x.levels) (sym q.is);
       positions = ap (λ (x : Nest). x.positions) (sym q.is);
       terms = subst (λ (x : Nest). Pairwise (SaysTerm (variables_of params n p) (params + d) (params + d')) n.terms x.terms) q.is (subst (λ (l : List Term). Pairwise (SaysTerm (variables_of params n p) (params + d) (params + d')) n.terms l) (sym terms_are) terms_say);
-      target = subst (λ (x : Nest). SaysAccess (variables_of params n p) n.target x.target) q.is (access-says params d d' nt p.old fits.counts widths plain.no_terms n.target q.target shaped.target old_target);
+      target = subst (λ (x : Nest). SaysAccess (SaysForm (variables_of params n p) (params + d) (params + d')) n.target x.target) q.is (access-says params d d' nt p.old fits.counts widths plain.no_terms n.target q.target shaped.target old_target);
       how = ap (λ (x : Nest). x.how) (sym q.is);
-      body = subst (λ (x : Nest). SaysBody (variables_of params n p) n.value x.value) q.is (body-says params d d' nt p.old fits.counts widths plain.no_terms n.value q.value shaped.value old_value);
+      body = subst (λ (x : Nest). SaysBody (SaysForm (variables_of params n p) (params + d) (params + d')) n.value x.value) q.is (body-says params d d' nt p.old fits.counts widths plain.no_terms n.value q.value shaped.value old_value);
       kept = r.0;
       says = rows_say;
       rows = ap (λ (x : Nest). x.rows) (sym q.is) ∙ r.4 ∙ ap (λ (l : List KernelRow). r.0 ++ l) (rows_judged-same p.rows r.1 r.3);

@@ -6,7 +6,8 @@ use Rattle.std.proofs.Math.Facts.{leb_yes}
 use Rattle.std.proofs.Math.Seq.{take-suc-set}
 use Rattle.std.proofs.lemmas.List.{drop_all, drop-set-lt, take_all, length-replicate}
 use Rattle.nest_tree.specs.declared.kernel.Nest.{Nest}
-use Rattle.nest_core.specs.Order.{HasPositions, shared, next_positions, at_positions, numbered, numbered_after}
+use Rattle.nest_core.specs.Order.{HasPositions, next_positions, at_positions, numbered, numbered_after}
+use Rattle.nest_tree.specs.Carriers.{shared}
 use Rattle.nest_core.proofs.Sharing.{shared-first_below, shared-second_below}
 
 abbrev pub at_most : ℕ → ℕ → Bool

@@ -6,7 +6,8 @@ use Rattle.std.proofs.lemmas.Bool.{cond_both}
 use Rattle.std.proofs.lemmas.List.{length-replicate}
 use Rattle.c_tree.specs.declared.program.Program.{Program}
 use Rattle.nest_tree.specs.declared.kernel.Nest.{Nest}
-use Rattle.nest_core.specs.Order.{HasPositions, shared, is_earlier, placed, placed_each, in_text_order, next_positions, at_positions, numbered_after, numbered}
+use Rattle.nest_core.specs.Order.{HasPositions, is_earlier, placed, placed_each, in_text_order, next_positions, at_positions, numbered_after, numbered}
+use Rattle.nest_tree.specs.Carriers.{shared}
 use Rattle.nest_core.specs.Shapes.{IsShapedNest}
 use Rattle.nest_core.proofs.Sharing.{shared-not, shared-first_below, shared-second_below}
 use Rattle.nest_core.proofs.Counting.{length-next_positions}

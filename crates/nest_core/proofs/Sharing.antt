@@ -4,7 +4,8 @@ use Rattle.std.specs.Prelude.{nat_lt}
 use Rattle.std.proofs.lemmas.Bool.{cases_lt}
 use Rattle.std.proofs.lemmas.Bool.Decides.{nat_tests}
 use Rattle.std.proofs.lemmas.Bool.{eqb-true, cond_both}
-use Rattle.nest_core.specs.Order.{shared, is_earlier}
+use Rattle.nest_core.specs.Order.{is_earlier}
+use Rattle.nest_tree.specs.Carriers.{shared}
 
 not-equal : (a b : ℕ) → (a ≡ b → ⊥) → nat_eq a b ≡ false
 not-equal a b h = of (nat_eq a b) refl where

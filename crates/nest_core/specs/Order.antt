@@ -1,14 +1,7 @@
--- The order of statements in the text, and the loops that they share.
+-- The order of statements in the text.
 use Rattle.std.specs.Prelude.{ℕ, suc, ◌<◌, ◌-◌, Bool, true, false, cond, nat_eq, nat_lt, nat_le, List, [], ◌∷◌, ◌++◌, length, take, replicate, slice_index_or}
 use Rattle.nest_tree.specs.declared.kernel.Nest.{Nest}
-
--- how many loops two statements share, by their positions: as long as these are equal, and both statements go deeper
-abbrev pub shared : List ℕ → List ℕ → ℕ
-shared [] _ = 0
-shared (p ∷ []) _ = 0
-shared (p ∷ p' ∷ ps) [] = 0
-shared (p ∷ p' ∷ ps) (q ∷ []) = 0
-shared (p ∷ p' ∷ ps) (q ∷ q' ∷ qs) = cond (nat_eq p q) (suc (shared (p' ∷ ps) (q' ∷ qs))) 0
+use Rattle.nest_tree.specs.Carriers.{shared}
 
 -- both statements have the level, and their positions are equal up to it
 abbrev pub shares_loop : ℕ → Nest → Nest → Bool

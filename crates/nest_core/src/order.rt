@@ -1,7 +1,8 @@
 // The order of statements in the text, the loops that they share, and their positions counted anew.
 ghost use Rattle.std.specs.Prelude.{◌≡◌, ◌+◌, ◌<◌, ◌≤◌, ◌^◌, length, insert, replicate, slice_index_or, suc, IfOk, IsTrue, OnOk};
 ghost use Rattle.std.specs.List.{AllByRecursion};
-ghost use Rattle.nest_core.specs.Order.{HasPositions, shared, shares_loop, is_earlier, placed, in_text_order, next_positions, at_positions, numbered};
+ghost use Rattle.nest_core.specs.Order.{HasPositions, shares_loop, is_earlier, placed, in_text_order, next_positions, at_positions, numbered};
+ghost use Rattle.nest_tree.specs.Carriers.{shared};
 
 use chill_base::{List, NoMemory};
 use nest_tree::Nest;

@@ -8,7 +8,7 @@ use Rattle.nest_tree.specs.declared.body.Body.TheVariants.{Const, At, Plus, Minu
 use Rattle.nest_tree.specs.declared.body.Body.TheOpen.{Body-F}
 use Rattle.nest_tree.specs.Forms.{value}
 use Rattle.nest_tree.specs.Moving.{Move}
-use Rattle.nest_tree.specs.Rewriting.{old_variables, HasValue, SaysAccess, SaysBody, const, at, plus, minus, times, IsRewritten}
+use Rattle.nest_tree.specs.Rewriting.{old_variables, HasValue, SaysNew, SaysAccess, SaysBody, const, at, plus, minus, times, IsRewritten}
 use Rattle.c_meaning.specs.Memory.{Spot}
 use Rattle.c_meaning.specs.Ground.{Ground, number, load, sum, difference, product}
 use Rattle.nest_laws.specs.Acts.{three, spot, ground_layer, ground, act}
@@ -33,16 +33,17 @@ ground-Minus q a b = ground_at q (Minus a b) _ (outs-Minus a b)
 pub ground-Times : (q : List ℤ) (a b : Body) → ground q (Times a b) ≡ product (ground q a) (ground q b)
 ground-Times q a b = ground_at q (Times a b) _ (outs-Times a b)
 
-module _ (olds : List Aff) (q : List ℤ) where
-  same_spot_named : (a b : Access) → SaysAccess olds a b → spot q b ≡ spot (map (value q) olds) a
+-- where each new subscript has the old one's value
+module _ (R : Aff → Aff → Type 0) (olds : List Aff) (q : List ℤ) (has : (f g : Aff) → R f g → HasValue olds f g) where
+  same_spot_named : (a b : Access) → SaysAccess R a b → spot q b ≡ spot (map (value q) olds) a
   same_spot_named a b h =
       ap (λ (x : List ℕ). record { array = x; at = three (map (value q) b.at) }) h.array
-      ∙ ap (λ (is : List ℤ). record { array = a.array; at = three is }) (pairs-map (HasValue olds) (value (map (value q) olds)) (value q) (λ f g k. k q) a.at b.at h.at)
+      ∙ ap (λ (is : List ℤ). record { array = a.array; at = three is }) (pairs-map R (value (map (value q) olds)) (value q) (λ f g k. has f g k q) a.at b.at h.at)
 
   both : (f : Ground → Ground → Ground) (x y z w : Ground) → x ≡ z → y ≡ w → f x y ≡ f z w
   both f x y z w e g = ap (λ (u : Ground). f u y) e ∙ ap (λ (u : Ground). f z u) g
 
-  pub same_ground : (a b : Body) → SaysBody olds a b → ground q b ≡ ground (map (value q) olds) a
+  pub same_ground : (a b : Body) → SaysBody R a b → ground q b ≡ ground (map (value q) olds) a
   same_ground _ _ (const c) = ground-Const q c ∙ sym (ground-Const (map (value q) olds) c)
   same_ground _ _ (at a b h) = ground-At q b ∙ ap load (same_spot_named a b h) ∙ sym (ground-At (map (value q) olds) a)
   same_ground _ _ (plus a b c d h k) = ground-Plus q c d ∙ both sum _ _ _ _ (same_ground a c h) (same_ground b d k) ∙ sym (ground-Plus (map (value q) olds) a b)
@@ -53,6 +54,7 @@ pub same_act : (params : ℕ) (m : Move) → IsRewritten params m → (q : List 
 same_act params m r q =
     let olds : List Aff = old_variables params m in
     let p : List ℤ = map (value q) olds in
-    ap (λ (x : Spot). record { target = x; how = (m.new).how; value = ground q (m.new).value }) (same_spot_named olds q (m.old).target (m.new).target r.target)
+    let has : (f g : Aff) → SaysNew params m f g → HasValue olds f g = λ f g h. h.same_value in
+    ap (λ (x : Spot). record { target = x; how = (m.new).how; value = ground q (m.new).value }) (same_spot_named (SaysNew params m) olds q has (m.old).target (m.new).target r.target)
     ∙ ap (λ (h : How). record { target = spot p (m.old).target; how = h; value = ground q (m.new).value }) r.how
-    ∙ ap (λ (g : Ground). record { target = spot p (m.old).target; how = (m.old).how; value = g }) (same_ground olds q (m.old).value (m.new).value r.body)
+    ∙ ap (λ (g : Ground). record { target = spot p (m.old).target; how = (m.old).how; value = g }) (same_ground (SaysNew params m) olds q has (m.old).value (m.new).value r.body)

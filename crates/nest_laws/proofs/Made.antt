@@ -15,7 +15,8 @@ use Rattle.std.specs.Prelude.{None}
 use Rattle.nest_tree.specs.Lists.{IsIn, Pairwise}
 use Rattle.int_rows.specs.Rows.{dot}
 use Rattle.nest_tree.specs.Forms.{coef, combined, replaced, replaced_row, times, zeros, variables}
-use Rattle.nest_tree.specs.Rewriting.{variables_of, HasValue, SaysForm, SaysTerm, SaysRow, SaysAccess, SaysBody, const, at, plus, minus, times as times_says, IsRewritten, AreWithin, IsWide, FitsWide}
+use Rattle.nest_tree.specs.Systems.{IsRead, here, plus_left, plus_right, minus_left, minus_right, times_left, times_right}
+use Rattle.nest_tree.specs.Rewriting.{variables_of, SaysForm, SaysTerm, SaysRow, SaysBody, const, at, plus, minus, times as times_says, IsRewritten, AreWithin, IsWide, FitsWide}
 use Rattle.nest_laws.proofs.Lists.{in_append, map-append}
 use Rattle.nest_laws.proofs.Forms.{value-replaced}
 use Rattle.nest_laws.proofs.Narrow.{coef-added, coef-scaled, coef-zeros, narrow-variables}
@@ -106,26 +107,26 @@ pub body_at : (olds : List Aff) (b : Body) (d : Body-F Body) → out-Body b ≡ 
 unfolding replaced_body
 body_at olds b d h = fold_out-Body Body (replaced_body_layer olds) b ∙ ap (λ d. replaced_body_layer olds (map-Body Body Body (replaced_body olds) d)) h
 
-says_access : (olds : List Aff) (a : Access) → SaysAccess olds a (record { array = a.array; at = map (replaced olds) a.at })
-says_access olds a = record { array = refl; at = each a.at }
-  where
-    each : (fs : List Aff) → Pairwise (HasValue olds) fs (map (replaced olds) fs)
-    each [] = tt
-    each (f ∷ fs) = ((λ q. value-replaced q olds f), each fs)
+-- a right side with replaced variables, where each subscript with replaced variables says what the old one does
+module _ (R : Aff → Aff → Type 0) (olds : List Aff) where
+  abbrev Says : Body → Type 0
+  Says b = ((a : Access) → IsRead a b → Pairwise R a.at (map (replaced olds) a.at)) → SaysBody R b (replaced_body olds b)
 
-abbrev Says : List Aff → Body → Type 0
-Says olds b = SaysBody olds b (replaced_body olds b)
+  says_layer : {A : Type 0} (f : A → Body) (g : (a : A) → Says (f a)) (y : Body-F A) → Says (roll-Body (map-Body A Body f y))
+  says_layer f g (Const-F c) = subst Says (sym (rolls-Const c)) (λ h. subst (SaysBody R (Const c)) (sym (body_at olds (Const c) _ (outs-Const c))) (const c))
+  says_layer f g (At-F a) = subst Says (sym (rolls-At a)) (λ h. subst (SaysBody R (At a)) (sym (body_at olds (At a) _ (outs-At a))) (at a _ (record { array = refl; at = h a here })))
+  says_layer f g (Plus-F a b) =
+      subst Says (sym (rolls-Plus (f a) (f b)))
+      (λ h. subst (SaysBody R (Plus (f a) (f b))) (sym (body_at olds (Plus (f a) (f b)) _ (outs-Plus (f a) (f b)))) (plus (f a) (f b) _ _ (g a (λ x r. h x (plus_left (f a) (f b) r))) (g b (λ x r. h x (plus_right (f a) (f b) r)))))
+  says_layer f g (Minus-F a b) =
+      subst Says (sym (rolls-Minus (f a) (f b)))
+      (λ h. subst (SaysBody R (Minus (f a) (f b))) (sym (body_at olds (Minus (f a) (f b)) _ (outs-Minus (f a) (f b)))) (minus (f a) (f b) _ _ (g a (λ x r. h x (minus_left (f a) (f b) r))) (g b (λ x r. h x (minus_right (f a) (f b) r)))))
+  says_layer f g (Times-F a b) =
+      subst Says (sym (rolls-Times (f a) (f b)))
+      (λ h. subst (SaysBody R (Times (f a) (f b))) (sym (body_at olds (Times (f a) (f b)) _ (outs-Times (f a) (f b)))) (times_says (f a) (f b) _ _ (g a (λ x r. h x (times_left (f a) (f b) r))) (g b (λ x r. h x (times_right (f a) (f b) r)))))
 
-module _ (olds : List Aff) where
-  says_layer : {A : Type 0} (f : A → Body) (g : (a : A) → Says olds (f a)) (y : Body-F A) → Says olds (roll-Body (map-Body A Body f y))
-  says_layer f g (Const-F c) = subst (Says olds) (sym (rolls-Const c)) (subst (SaysBody olds (Const c)) (sym (body_at olds (Const c) _ (outs-Const c))) (const c))
-  says_layer f g (At-F a) = subst (Says olds) (sym (rolls-At a)) (subst (SaysBody olds (At a)) (sym (body_at olds (At a) _ (outs-At a))) (at a _ (says_access olds a)))
-  says_layer f g (Plus-F a b) = subst (Says olds) (sym (rolls-Plus (f a) (f b))) (subst (SaysBody olds (Plus (f a) (f b))) (sym (body_at olds (Plus (f a) (f b)) _ (outs-Plus (f a) (f b)))) (plus (f a) (f b) _ _ (g a) (g b)))
-  says_layer f g (Minus-F a b) = subst (Says olds) (sym (rolls-Minus (f a) (f b))) (subst (SaysBody olds (Minus (f a) (f b))) (sym (body_at olds (Minus (f a) (f b)) _ (outs-Minus (f a) (f b)))) (minus (f a) (f b) _ _ (g a) (g b)))
-  says_layer f g (Times-F a b) = subst (Says olds) (sym (rolls-Times (f a) (f b))) (subst (SaysBody olds (Times (f a) (f b))) (sym (body_at olds (Times (f a) (f b)) _ (outs-Times (f a) (f b)))) (times_says (f a) (f b) _ _ (g a) (g b)))
-
-  says_body : (b : Body) → Says olds b
-  says_body = ind-Body (Says olds) (λ x y e. subst (λ d. Says olds (roll-Body d)) e (says_layer (λ e. e.0) (λ e. e.1) y))
+  says_body : (b : Body) → Says b
+  says_body = ind-Body Says (λ x y e. subst (λ d. Says (roll-Body d)) e (says_layer (λ e. e.0) (λ e. e.1) y))
 
 -- the statement with replaced variables; the levels for which its rows were made don't matter here
 abbrev pub made_nest : ℕ → Nest → Piece → Nest
@@ -187,11 +188,12 @@ module _ (params : ℕ) (n : Nest) (p : Piece) (wide : IsWide params n) (fits : 
         new_shape = fits.shape;
         forms = fits.forms;
         no_terms = fits.no_terms;
+        levels = refl;
         positions = refl;
         terms = says_terms n.terms wide.terms;
-        target = says_access (variables_of params n p) n.target;
+        target = record { array = refl; at = says_forms (n.target).at wide.target };
         how = refl;
-        body = says_body (variables_of params n p) n.value;
+        body = says_body (SaysForm (variables_of params n p) (params + length n.levels) (params + length p.levels)) (variables_of params n p) n.value (λ a r. says_forms a.at (wide.reads a r));
         kept = map (λ r. record { row = replaced_row (variables_of params n p) r.row; own = r.own }) n.rows;
         says = says_rows n.rows wide.rows;
         rows = refl;

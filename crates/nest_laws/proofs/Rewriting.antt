@@ -63,7 +63,7 @@ module _ (olds : List Aff) (old_width new_width : ℕ) (q p : List ℤ) (is : ma
     same_cell t u v h = ap (λ (a : List ℕ). i.cells a (map (value q) u.at)) h.array ∙ ap (λ (at : List ℤ). i.cells t.array at) (forms-say t.at u.at h.at)
 
     -- the new term at a place finds its cell exactly where the old one does
-    found_new : (k : ℕ) → IsFound i old_width ts p k → IsFound i new_width us q k
+    pub found_new : (k : ℕ) → IsFound i old_width ts p k → IsFound i new_width us q k
     found_new _ (found k t v at is args) =
         let u = pair_at-first (SaysTerm olds old_width new_width) k ts us t all at in
         found k u.0 v u.1 (same_cell t u.0 v u.2 ∙ is)

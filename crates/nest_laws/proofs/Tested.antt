@@ -36,7 +36,7 @@ meets-once p (r ∷ rows) h = (subst (Holds r.equal) (once (dot (r.form).coefs p
     once a c = omega (arith, ints)
 
 -- as many subscripts, at most three, are told by the three that they are filled up to
-three-tells : (xs ys : List ℤ) → length xs ≡ length ys → length xs ≤ 3 → three xs ≡ three ys → xs ≡ ys
+pub three-tells : (xs ys : List ℤ) → length xs ≡ length ys → length xs ≤ 3 → three xs ≡ three ys → xs ≡ ys
 three-tells [] [] e h k = refl
 three-tells [] (y ∷ ys) e h k = absurd (omega (arith, e))
 three-tells (x ∷ xs) [] e h k = absurd (omega (arith, e))
@@ -55,7 +55,7 @@ length-values q [] = refl
 length-values q (f ∷ fs) = ap (λ (n : ℕ). suc n) (length-values q fs)
 
 -- accesses that name one cell have equal subscripts
-same_subscripts : (a b : Access) (q p : List ℤ) → length a.at ≡ length b.at → length a.at ≤ 3 → spot q a ≡ spot p b → map (value q) a.at ≡ map (value p) b.at
+pub same_subscripts : (a b : Access) (q p : List ℤ) → length a.at ≡ length b.at → length a.at ≤ 3 → spot q a ≡ spot p b → map (value q) a.at ≡ map (value p) b.at
 same_subscripts a b q p e h k =
     let la = length-values q a.at in
     let lb = length-values p b.at in

@@ -13,7 +13,7 @@ use Rattle.c_meaning.specs.Weighed.{Weighed, greatest, negated, sum_of, differen
 use Rattle.c_meaning.specs.Value.{Sight, Answer, ◌>>=◌, judged, held, plain_answer, three_answers, on_one, on_two, cell_seen, measure, subscripts_of, value_of}
 use Rattle.c_meaning.proofs.Equations.{cell_value_is, measure-Const, measure-Var, measure-At, measure-Neg, measure-Plus, measure-Minus, measure-Times, measure-Min, measure-Max, measure-Floor, measure-Ceil, subscripts-One, subscripts-Two, subscripts-Three}
 use Rattle.nest_tree.specs.Levels.{IsInTile}
-use Rattle.nest_laws.specs.Weights.{Sizes, KeepsTo, HasSize, const, name, one, two, three, neg, plus, minus, times, lesser, greater, floor, ceil, SmallExpressionHasValue}
+use Rattle.nest_laws.specs.Weights.{Sizes, HasSize, const, name, one, two, three, neg, plus, minus, times, lesser, greater, floor, ceil, SmallExpressionHasValue}
 use Rattle.nest_laws.proofs.Levels.{quotient_is}
 
 abs-neg : (a : ℤ) → unsigned_abs (neg_ℤ a) ≡ unsigned_abs a
@@ -98,24 +98,24 @@ cell_weighs s array at is w n e f h = record {
   within = h;
 }
 
-module _ (z : Sizes) (s : Sight) (keeps : KeepsTo z s) where
+module _ (z : Sizes) (s : Sight) where
   weighs : (e : Index) (v : ℤ) (n : ℕ) → HasSize z s e v n → Weighs s e v n
   weighs _ _ _ (const n) = record { weight = unsigned_abs n; is = measure-Const n s; covers = omega arith; within = omega arith }
-  weighs _ _ _ (name x) = record { weight = unsigned_abs (s.value x); is = measure-Var x s; covers = omega arith; within = keeps.names x }
-  weighs _ _ _ (one array a v w n h l f) =
+  weighs _ _ _ (name x k) = record { weight = unsigned_abs (s.value x); is = measure-Var x s; covers = omega arith; within = k }
+  weighs _ _ _ (one array a v w n h l f k) =
       let i = small_value s a v n (weighs a v n h) l in
-      cell_weighs s array (One a) (v ∷ pos 0 ∷ pos 0 ∷ []) w (z.cells array) (subscripts-One a s ∙ ap (λ (x : Answer ℤ). three_answers x (Ok (pos 0)) (Ok (pos 0))) i) f (keeps.cells array (v ∷ pos 0 ∷ pos 0 ∷ []) w f)
-  weighs _ _ _ (two array a b v u w n m h l k o f) =
+      cell_weighs s array (One a) (v ∷ pos 0 ∷ pos 0 ∷ []) w (z.cells array) (subscripts-One a s ∙ ap (λ (x : Answer ℤ). three_answers x (Ok (pos 0)) (Ok (pos 0))) i) f k
+  weighs _ _ _ (two array a b v u w n m h l k o f c) =
       let i = small_value s a v n (weighs a v n h) l in
       let j = small_value s b u m (weighs b u m k) o in
       cell_weighs s array (Two a b) (v ∷ u ∷ pos 0 ∷ []) w (z.cells array)
-      (subscripts-Two a b s ∙ ap (λ (x : Answer ℤ). three_answers x (value_of b s) (Ok (pos 0))) i ∙ ap (λ (y : Answer ℤ). three_answers (Ok v) y (Ok (pos 0))) j) f (keeps.cells array (v ∷ u ∷ pos 0 ∷ []) w f)
-  weighs _ _ _ (three array a b c v u t w n m q h l k o g p f) =
+      (subscripts-Two a b s ∙ ap (λ (x : Answer ℤ). three_answers x (value_of b s) (Ok (pos 0))) i ∙ ap (λ (y : Answer ℤ). three_answers (Ok v) y (Ok (pos 0))) j) f c
+  weighs _ _ _ (three array a b c v u t w n m q h l k o g p f d) =
       let i = small_value s a v n (weighs a v n h) l in
       let j = small_value s b u m (weighs b u m k) o in
       let r = small_value s c t q (weighs c t q g) p in
       cell_weighs s array (Three a b c) (v ∷ u ∷ t ∷ []) w (z.cells array)
-      (subscripts-Three a b c s ∙ ap (λ (x : Answer ℤ). three_answers x (value_of b s) (value_of c s)) i ∙ ap (λ (y : Answer ℤ). three_answers (Ok v) y (value_of c s)) j ∙ ap (λ (y : Answer ℤ). three_answers (Ok v) (Ok u) y) r) f (keeps.cells array (v ∷ u ∷ t ∷ []) w f)
+      (subscripts-Three a b c s ∙ ap (λ (x : Answer ℤ). three_answers x (value_of b s) (value_of c s)) i ∙ ap (λ (y : Answer ℤ). three_answers (Ok v) y (value_of c s)) j ∙ ap (λ (y : Answer ℤ). three_answers (Ok v) (Ok u) y) r) f d
   weighs _ _ _ (neg a v n h) =
       let k = weighs a v n h in
       let c = k.covers in
@@ -160,8 +160,8 @@ module _ (z : Sizes) (s : Sight) (keeps : KeepsTo z s) where
       record { weight = k.weight; is = one_weighs s (Ceil a d) a (λ x. ceil_of x d) v n (measure-Ceil a d s) k; covers = omega (arith, c, q); within = k.within }
 
 pub small : SmallExpressionHasValue
-small z s e v n keeps h k =
-    let w = weighs z s keeps e v n h in
+small z s e v n h k =
+    let w = weighs z s e v n h in
     let c = w.covers in
     let l = w.within in
     (small_value s e v n w k, omega arith)

@@ -13,19 +13,14 @@ pub record Sizes : Type 0 where
   pub names : Name → ℕ
   pub cells : Name → ℕ
 
--- what is seen keeps to the sizes
-pub record KeepsTo (z : Sizes) (s : Sight) : Type 0 where
-  pub names : (x : Name) → unsigned_abs (s.value x) ≤ z.names x
-  pub cells : (a : Name) (at : List ℤ) (v : ℤ) → cell_seen s a at ≡ Some v → unsigned_abs v ≤ z.cells a
-
--- The expression has this value and this size: each read in it finds its cell, each subscript has a size of at most 2^62, and
--- each divisor is at least 1.
+-- The expression has this value and this size: each name in it, and the cell that each read in it finds, keeps to its size, each
+-- subscript has a size of at most 2^62, and each divisor is at least 1.
 pub data HasSize (z : Sizes) (s : Sight) : Index → ℤ → ℕ → Type 0 where
   const : (n : ℤ) → HasSize z s (Const n) n (unsigned_abs n)
-  name : (x : Name) → HasSize z s (Var x) (s.value x) (z.names x)
-  one : (array : Name) (a : Index) (v w : ℤ) (n : ℕ) → HasSize z s a v n → n ≤ greatest → cell_seen s array (v ∷ pos 0 ∷ pos 0 ∷ []) ≡ Some w → HasSize z s (At (record { array = array; at = One a })) w (z.cells array)
-  two : (array : Name) (a b : Index) (v u w : ℤ) (n m : ℕ) → HasSize z s a v n → n ≤ greatest → HasSize z s b u m → m ≤ greatest → cell_seen s array (v ∷ u ∷ pos 0 ∷ []) ≡ Some w → HasSize z s (At (record { array = array; at = Two a b })) w (z.cells array)
-  three : (array : Name) (a b c : Index) (v u t w : ℤ) (n m k : ℕ) → HasSize z s a v n → n ≤ greatest → HasSize z s b u m → m ≤ greatest → HasSize z s c t k → k ≤ greatest → cell_seen s array (v ∷ u ∷ t ∷ []) ≡ Some w → HasSize z s (At (record { array = array; at = Three a b c })) w (z.cells array)
+  name : (x : Name) → unsigned_abs (s.value x) ≤ z.names x → HasSize z s (Var x) (s.value x) (z.names x)
+  one : (array : Name) (a : Index) (v w : ℤ) (n : ℕ) → HasSize z s a v n → n ≤ greatest → cell_seen s array (v ∷ pos 0 ∷ pos 0 ∷ []) ≡ Some w → unsigned_abs w ≤ z.cells array → HasSize z s (At (record { array = array; at = One a })) w (z.cells array)
+  two : (array : Name) (a b : Index) (v u w : ℤ) (n m : ℕ) → HasSize z s a v n → n ≤ greatest → HasSize z s b u m → m ≤ greatest → cell_seen s array (v ∷ u ∷ pos 0 ∷ []) ≡ Some w → unsigned_abs w ≤ z.cells array → HasSize z s (At (record { array = array; at = Two a b })) w (z.cells array)
+  three : (array : Name) (a b c : Index) (v u t w : ℤ) (n m k : ℕ) → HasSize z s a v n → n ≤ greatest → HasSize z s b u m → m ≤ greatest → HasSize z s c t k → k ≤ greatest → cell_seen s array (v ∷ u ∷ t ∷ []) ≡ Some w → unsigned_abs w ≤ z.cells array → HasSize z s (At (record { array = array; at = Three a b c })) w (z.cells array)
   neg : (a : Index) (v : ℤ) (n : ℕ) → HasSize z s a v n → HasSize z s (Neg a) (neg_ℤ v) n
   plus : (a b : Index) (v u : ℤ) (n m : ℕ) → HasSize z s a v n → HasSize z s b u m → HasSize z s (Plus a b) (v +ℤ u) (n + m)
   minus : (a b : Index) (v u : ℤ) (n m : ℕ) → HasSize z s a v n → HasSize z s b u m → HasSize z s (Minus a b) (v -ℤ u) (n + m)
@@ -37,4 +32,4 @@ pub data HasSize (z : Sizes) (s : Sight) : Index → ℤ → ℕ → Type 0 wher
 
 -- an expression of a small size has its value, no fault, and the value keeps to the size
 abbrev pub SmallExpressionHasValue : Type 0
-SmallExpressionHasValue = (z : Sizes) (s : Sight) (e : Index) (v : ℤ) (n : ℕ) → KeepsTo z s → HasSize z s e v n → n ≤ greatest → (value_of e s ≡ Ok v) × (unsigned_abs v ≤ n)
+SmallExpressionHasValue = (z : Sizes) (s : Sight) (e : Index) (v : ℤ) (n : ℕ) → HasSize z s e v n → n ≤ greatest → (value_of e s ≡ Ok v) × (unsigned_abs v ≤ n)

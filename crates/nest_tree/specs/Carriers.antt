@@ -2,7 +2,7 @@
 use Rattle.std.specs.Prelude.{◌≡◌, ℕ, zero, suc, ◌≤◌, ◌<◌, List, ◌∷◌, ℤ, ◌<ℤ◌, cond, nat_eq}
 use Rattle.nest_tree.specs.Places.{IsTextBefore}
 
--- how many loops two statements share, by their positions
+-- how many loops two statements share, by their positions: as long as these are equal, and both statements go deeper
 abbrev pub shared : List ℕ → List ℕ → ℕ
 shared (p ∷ p' ∷ ps) (q ∷ q' ∷ qs) = cond (nat_eq p q) (suc (shared (p' ∷ ps) (q' ∷ qs))) 0
 shared _ _ = 0

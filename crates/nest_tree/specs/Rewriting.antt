@@ -11,6 +11,7 @@ use Rattle.nest_tree.specs.declared.body.Body.TheVariants.{Const, At, Plus, Minu
 use Rattle.nest_tree.specs.Lists.{IsIn, Pairwise}
 use Rattle.nest_tree.specs.Forms.{coef, value, Names, variables}
 use Rattle.nest_tree.specs.Moving.{Move}
+use Rattle.nest_tree.specs.Systems.{IsRead}
 
 -- a statement's variables as forms of the new ones: the parameters, each old level by its form in the piece, and the old terms
 abbrev pub variables_of : ℕ → Nest → Piece → List Aff
@@ -37,21 +38,26 @@ pub record SaysRow (olds : List Aff) (old_width new_width : ℕ) (r s : KernelRo
   pub equal : (s.row).equal ≡ (r.row).equal
   pub form : SaysForm olds old_width new_width (r.row).form (s.row).form
 
-pub record SaysAccess (olds : List Aff) (a b : Access) : Type 0 where
+-- an access to the same array, where each new subscript says so much of the old one
+pub record SaysAccess (Says : Aff → Aff → Type 0) (a b : Access) : Type 0 where
   pub array : b.array ≡ a.array
-  pub at : Pairwise (HasValue olds) a.at b.at
+  pub at : Pairwise Says a.at b.at
 
 -- the same right side but for its subscripts
-pub data SaysBody (olds : List Aff) : Body → Body → Type 0 where
-  const : (c : ℕ) → SaysBody olds (Const c) (Const c)
-  at : (a b : Access) → SaysAccess olds a b → SaysBody olds (At a) (At b)
-  plus : (a b c d : Body) → SaysBody olds a c → SaysBody olds b d → SaysBody olds (Plus a b) (Plus c d)
-  minus : (a b c d : Body) → SaysBody olds a c → SaysBody olds b d → SaysBody olds (Minus a b) (Minus c d)
-  times : (a b c d : Body) → SaysBody olds a c → SaysBody olds b d → SaysBody olds (Times a b) (Times c d)
+pub data SaysBody (Says : Aff → Aff → Type 0) : Body → Body → Type 0 where
+  const : (c : ℕ) → SaysBody Says (Const c) (Const c)
+  at : (a b : Access) → SaysAccess Says a b → SaysBody Says (At a) (At b)
+  plus : (a b c d : Body) → SaysBody Says a c → SaysBody Says b d → SaysBody Says (Plus a b) (Plus c d)
+  minus : (a b c d : Body) → SaysBody Says a c → SaysBody Says b d → SaysBody Says (Minus a b) (Minus c d)
+  times : (a b c d : Body) → SaysBody Says a c → SaysBody Says b d → SaysBody Says (Times a b) (Times c d)
 
 -- the form names no term, nor any variable behind the parameters and levels
 abbrev pub NamesNoTerm : ℕ → Aff → Type 0
 NamesNoTerm width f = (j : ℕ) → coef (width + j) f.coefs ≡ pos 0
+
+-- a form over the piece's levels says what the old form says over the old ones
+abbrev pub SaysNew : ℕ → Move → Aff → Aff → Type 0
+SaysNew params m = SaysForm (old_variables params m) (params + length (m.old).levels) (params + length (m.piece).levels)
 
 -- the new statement has the piece's levels and positions, the old terms and all old rows in the new variables, and then the piece's rows, and the same assignment; the old levels' forms name no terms
 pub record IsRewritten (params : ℕ) (m : Move) : Type 0 where
@@ -59,11 +65,12 @@ pub record IsRewritten (params : ℕ) (m : Move) : Type 0 where
   pub new_shape : length (m.piece).positions ≡ suc (length (m.piece).levels)
   pub forms : length (m.piece).old ≡ length (m.old).levels
   pub no_terms : (f : Aff) → IsIn f (m.piece).old → NamesNoTerm (params + length (m.piece).levels) f
+  pub levels : (m.new).levels ≡ (m.piece).levels
   pub positions : (m.new).positions ≡ (m.piece).positions
   pub terms : Pairwise (SaysTerm (old_variables params m) (params + length (m.old).levels) (params + length (m.piece).levels)) (m.old).terms (m.new).terms
-  pub target : SaysAccess (old_variables params m) (m.old).target (m.new).target
+  pub target : SaysAccess (SaysNew params m) (m.old).target (m.new).target
   pub how : (m.new).how ≡ (m.old).how
-  pub body : SaysBody (old_variables params m) (m.old).value (m.new).value
+  pub body : SaysBody (SaysNew params m) (m.old).value (m.new).value
   pub kept : List KernelRow
   pub says : Pairwise (SaysRow (old_variables params m) (params + length (m.old).levels) (params + length (m.piece).levels)) (m.old).rows kept
   pub rows : (m.new).rows ≡ kept ++ (m.piece).rows
@@ -72,11 +79,13 @@ pub record IsRewritten (params : ℕ) (m : Move) : Type 0 where
 abbrev pub AreWithin : ℕ → List Aff → Type 0
 AreWithin width fs = (f : Aff) → IsIn f fs → length f.coefs ≤ width
 
--- there is one position more than levels, and no row and no term has more coefficients than there are parameters, levels and terms
+-- there is one position more than levels, and no row, term or subscript has more coefficients than there are parameters, levels and terms
 pub record IsWide (params : ℕ) (n : Nest) : Type 0 where
   pub shape : length n.positions ≡ suc (length n.levels)
   pub rows : (r : KernelRow) → IsIn r n.rows → length ((r.row).form).coefs ≤ params + length n.levels + length n.terms
   pub terms : (t : Term) → IsIn t n.terms → AreWithin (params + length n.levels + length n.terms) t.at
+  pub target : AreWithin (params + length n.levels + length n.terms) (n.target).at
+  pub reads : (a : Access) → IsRead a n.value → AreWithin (params + length n.levels + length n.terms) a.at
 
 -- a piece with a form for each level, of parameters and new levels alone
 pub record FitsWide (params : ℕ) (n : Nest) (p : Piece) : Type 0 where

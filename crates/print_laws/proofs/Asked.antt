@@ -11,7 +11,7 @@ use Rattle.c_tree.specs.declared.statement.Test.{Test}
 use Rattle.c_meaning.specs.Value.{Answer, Sight, ◌>>=◌, is_inside, compares, value_of, holds, all_hold}
 use Rattle.c_meaning.specs.Examples.{i}
 use Rattle.nest_tree.specs.Lists.{Pairwise}
-use Rattle.nest_laws.specs.Weights.{Sizes, KeepsTo, HasSize, const, name, one, lesser, greater}
+use Rattle.nest_laws.specs.Weights.{Sizes, HasSize, const, name, one, lesser, greater}
 use Rattle.nest_laws.proofs.Weights.{small}
 use Rattle.scan_laws.specs.Bounds.{greatest, least}
 use Rattle.scan_laws.specs.Examples.{x, x_sight, x_sizes}
@@ -47,10 +47,10 @@ one_more s t ts true h rest =
     )
 
 pub ordered : OrderedTestsHaveAnswer
-ordered z s _ k none = (true, refl, λ e. tt, λ w. refl)
-ordered z s _ k (next t ts v w n m h l g o rest) =
-    let c : holds t s ≡ Ok (compares t.cmp v w) = test_is s t v w (small z s t.left v n k h l).0 (small z s t.right w m k g o).0 in
-    one_more s t ts (compares t.cmp v w) c (λ e. ordered z s ts k (rest e))
+ordered z s _ none = (true, refl, λ e. tt, λ w. refl)
+ordered z s _ (next t ts v w n m h l g o rest) =
+    let c : holds t s ≡ Ok (compares t.cmp v w) = test_is s t v w (small z s t.left v n h l).0 (small z s t.right w m g o).0 in
+    one_more s t ts (compares t.cmp v w) c (λ e. ordered z s ts (rest e))
 
 -- ---- bounds
 max-within : (k l n : ℕ) → k ≤ n → l ≤ n → max k l ≤ n
@@ -73,36 +73,29 @@ pub level : LevelKeepsToSize
 level low high v n a b l u = grind (arith, ints)
 
 -- ---- worked cases
-small_cell : (t : Bool) (v : ℤ) → (if t then Some (pos 5) else None) ≡ Some v → unsigned_abs v ≤ 2 ^ 24
-small_cell true v h = let e : pos 5 ≡ v = cc in subst (λ (z : ℤ). unsigned_abs z ≤ 2 ^ 24) e (omega arith)
-small_cell false v h = absurd cc
-
-keeps : KeepsTo x_sizes x_sight
-keeps = record { names = λ y. omega arith; cells = λ a at v h. small_cell (is_inside at (pos 4 ∷ pos 1 ∷ pos 1 ∷ [])) v h }
-
 asked : AreAsked x_sizes x_sight tests
 asked =
-    next _ _ (pos 1) (pos 0) (2 ^ 24) 0 (name i) (omega arith) (const (pos 0)) (omega arith)
-    (λ e. next _ _ (pos 1) (pos 3) (2 ^ 24) 3 (name i) (omega arith) (const (pos 3)) (omega arith)
-    (λ f. next _ _ (pos 5) (pos 5) (2 ^ 24) 5 (one x (Var i) (pos 1) (pos 5) (2 ^ 24) (name i) (omega arith) refl) (omega arith) (const (pos 5)) (omega arith) (λ g. none)))
+    next _ _ (pos 1) (pos 0) (2 ^ 24) 0 (name i (omega arith)) (omega arith) (const (pos 0)) (omega arith)
+    (λ e. next _ _ (pos 1) (pos 3) (2 ^ 24) 3 (name i (omega arith)) (omega arith) (const (pos 3)) (omega arith)
+    (λ f. next _ _ (pos 5) (pos 5) (2 ^ 24) 5 (one x (Var i) (pos 1) (pos 5) (2 ^ 24) (name i (omega arith)) (omega arith) refl (omega arith)) (omega arith) (const (pos 5)) (omega arith) (λ g. none)))
 
 pub worked_tests : WorkedTests
-worked_tests = (asked, (let r = ordered x_sizes x_sight tests keeps asked in r.1 ∙ ap (λ (b : Bool). let a : Answer Bool = Ok b in a) (r.3 all_true)))
+worked_tests = (asked, (let r = ordered x_sizes x_sight tests asked in r.1 ∙ ap (λ (b : Bool). let a : Answer Bool = Ok b in a) (r.3 all_true)))
   where
     all_true : AllAreTrue tests x_sight
     all_true = (
-      test_is x_sight (test (Var i) AtLeast (Const (pos 0))) (pos 1) (pos 0) (small x_sizes x_sight (Var i) (pos 1) (2 ^ 24) keeps (name i) (omega arith)).0 (small x_sizes x_sight (Const (pos 0)) (pos 0) 0 keeps (const (pos 0)) (omega arith)).0,
+      test_is x_sight (test (Var i) AtLeast (Const (pos 0))) (pos 1) (pos 0) (small x_sizes x_sight (Var i) (pos 1) (2 ^ 24) (name i (omega arith)) (omega arith)).0 (small x_sizes x_sight (Const (pos 0)) (pos 0) 0 (const (pos 0)) (omega arith)).0,
       (
-        test_is x_sight (test (Var i) AtMost (Const (pos 3))) (pos 1) (pos 3) (small x_sizes x_sight (Var i) (pos 1) (2 ^ 24) keeps (name i) (omega arith)).0 (small x_sizes x_sight (Const (pos 3)) (pos 3) 3 keeps (const (pos 3)) (omega arith)).0,
+        test_is x_sight (test (Var i) AtMost (Const (pos 3))) (pos 1) (pos 3) (small x_sizes x_sight (Var i) (pos 1) (2 ^ 24) (name i (omega arith)) (omega arith)).0 (small x_sizes x_sight (Const (pos 3)) (pos 3) 3 (const (pos 3)) (omega arith)).0,
         (
-          test_is x_sight (test (At (record { array = x; at = One (Var i) })) Same (Const (pos 5))) (pos 5) (pos 5) (small x_sizes x_sight (At (record { array = x; at = One (Var i) })) (pos 5) (2 ^ 24) keeps (one x (Var i) (pos 1) (pos 5) (2 ^ 24) (name i) (omega arith) refl) (omega arith)).0 (small x_sizes x_sight (Const (pos 5)) (pos 5) 5 keeps (const (pos 5)) (omega arith)).0,
+          test_is x_sight (test (At (record { array = x; at = One (Var i) })) Same (Const (pos 5))) (pos 5) (pos 5) (small x_sizes x_sight (At (record { array = x; at = One (Var i) })) (pos 5) (2 ^ 24) (one x (Var i) (pos 1) (pos 5) (2 ^ 24) (name i (omega arith)) (omega arith) refl (omega arith)) (omega arith)).0 (small x_sizes x_sight (Const (pos 5)) (pos 5) 5 (const (pos 5)) (omega arith)).0,
           tt,
         ),
       ),
     )
 
 pub worked_bound : WorkedBound
-worked_bound = (nested x_sizes x_sight (2 ^ 24) (Const (pos 0)) (Var i ∷ []) (pos 0) (pos 1 ∷ []) ((0, const (pos 0), omega arith), ((2 ^ 24, name i, omega arith), tt))).0
+worked_bound = (nested x_sizes x_sight (2 ^ 24) (Const (pos 0)) (Var i ∷ []) (pos 0) (pos 1 ∷ []) ((0, const (pos 0), omega arith), ((2 ^ 24, name i (omega arith), omega arith), tt))).0
 
 pub worked_level : WorkedLevel
 worked_level = (

@@ -7,7 +7,7 @@ use Rattle.c_tree.specs.declared.index.Index.TheVariants.{Neg, Ceil}
 use Rattle.c_tree.specs.declared.statement.Test.{Test}
 use Rattle.c_meaning.specs.Value.{Sight, holds, all_hold}
 use Rattle.nest_tree.specs.Lists.{Pairwise}
-use Rattle.nest_laws.specs.Weights.{Sizes, KeepsTo}
+use Rattle.nest_laws.specs.Weights.{Sizes}
 use Rattle.scan_laws.specs.Bounds.{greatest, least}
 use Rattle.print_laws.specs.Printed.{AreAsked, IsSized, greatest_of, least_of}
 
@@ -17,7 +17,7 @@ AllAreTrue ts s = AllByRecursion (λ t. holds t s ≡ Ok true) ts
 -- tests that are asked in order have an answer and no fault, and it is true exactly where all of them are
 abbrev pub OrderedTestsHaveAnswer : Type 0
 OrderedTestsHaveAnswer =
-    (z : Sizes) (s : Sight) (ts : List Test) → KeepsTo z s → AreAsked z s ts → (b : Bool) × (all_hold ts s ≡ Ok b) × (b ≡ true → AllAreTrue ts s) × (AllAreTrue ts s → b ≡ true)
+    (z : Sizes) (s : Sight) (ts : List Test) → AreAsked z s ts → (b : Bool) × (all_hold ts s ≡ Ok b) × (b ≡ true → AllAreTrue ts s) × (AllAreTrue ts s → b ≡ true)
 
 -- nested expressions of some values have the greatest and the least of these, and no greater size
 abbrev pub NestedBoundsHaveValue : Type 0

@@ -9,7 +9,7 @@ use Rattle.c_meaning.specs.Examples.{i}
 use Rattle.nest_tree.specs.Lists.{IsIn}
 use Rattle.nest_tree.specs.Forms.{coef, Names}
 use Rattle.nest_tree.specs.Terms.{IsReady, ready, IsDirect, IsCut}
-use Rattle.nest_laws.specs.Weights.{KeepsTo, HasSize, const, name, one, plus, minus}
+use Rattle.nest_laws.specs.Weights.{HasSize, const, name, one, plus, minus}
 use Rattle.nest_laws.proofs.Bounding.{bounds}
 use Rattle.nest_laws.proofs.Weights.{small}
 use Rattle.scan_laws.specs.Examples.{x, x_input, x_terms, below_next, WorkedBounds, x_sight, x_sizes, before_next, WorkedSize}
@@ -57,21 +57,11 @@ cut k = record { same_length = refl; is_variable = omega arith; before = same; z
 pub worked_bounds : WorkedBounds
 worked_bounds k = (cut k, direct, refl, (bounds x_input x_terms (pos 3 ∷ pos 1 ∷ k ∷ []) (pos 3 ∷ pos 1 ∷ pos 0 ∷ []) 2 below_next (cut k) direct).2 0 refl)
 
-keeps : KeepsTo x_sizes x_sight
-keeps = record { names = λ y. omega arith; cells = λ a at v h. seen a at v h }
-  where
-    cases_seen : (t : Bool) (v : ℤ) → (if t then Some (pos 5) else None) ≡ Some v → unsigned_abs v ≤ 2 ^ 24
-    cases_seen true v h = let e : pos 5 ≡ v = cc in subst (λ (z : ℤ). unsigned_abs z ≤ 2 ^ 24) e (omega arith)
-    cases_seen false v h = absurd cc
-
-    seen : (a : List ℕ) (at : List ℤ) (v : ℤ) → cell_seen x_sight a at ≡ Some v → unsigned_abs v ≤ 2 ^ 24
-    seen a at v h = cases_seen (is_inside at (pos 4 ∷ pos 1 ∷ pos 1 ∷ [])) v h
-
 size : HasSize x_sizes x_sight before_next (pos 4) (2 ^ 24 + 1)
 size =
     minus (At (record { array = x; at = One (Plus (Var i) (Const (pos 1))) })) (Const (pos 1)) (pos 5) (pos 1) (2 ^ 24) 1
-    (one x (Plus (Var i) (Const (pos 1))) (pos 2) (pos 5) (2 ^ 24 + 1) (plus (Var i) (Const (pos 1)) (pos 1) (pos 1) (2 ^ 24) 1 (name i) (const (pos 1))) (omega arith) refl)
+    (one x (Plus (Var i) (Const (pos 1))) (pos 2) (pos 5) (2 ^ 24 + 1) (plus (Var i) (Const (pos 1)) (pos 1) (pos 1) (2 ^ 24) 1 (name i (omega arith)) (const (pos 1))) (omega arith) refl (omega arith))
     (const (pos 1))
 
 pub worked_size : WorkedSize
-worked_size = (keeps, size, (small x_sizes x_sight before_next (pos 4) (2 ^ 24 + 1) keeps size (omega arith)).0)
+worked_size = (size, (small x_sizes x_sight before_next (pos 4) (2 ^ 24 + 1) size (omega arith)).0)

@@ -23,7 +23,7 @@ use Rattle.nest_tree.specs.Scans.{Slot, Maker, IsScan, IsSoundMaker}
 use Rattle.nest_laws.specs.Acts.{act}
 use Rattle.nest_laws.specs.Trees.{IsFine, without_faults, tree_of}
 use Rattle.nest_laws.specs.RunLaws.{as_items, MeetsRows, slots_of}
-use Rattle.nest_laws.specs.Weights.{Sizes, KeepsTo, HasSize}
+use Rattle.nest_laws.specs.Weights.{Sizes, HasSize}
 use Rattle.scan_laws.specs.Printing.{IsPrinted}
 use Rattle.scan_laws.specs.Rows.{Scanned, maker, is_known, IsFull, IsReadyWhereNeeded, slots}
 use Rattle.scan_laws.specs.Laws.{HasKernelList}
@@ -128,4 +128,4 @@ before_next = Minus (At (record { array = x; at = One (Plus (Var i) (Const (pos 
 
 -- it has the value 4 and the size 2^24+1, so no fault
 abbrev pub WorkedSize : Type 0
-WorkedSize = KeepsTo x_sizes x_sight × HasSize x_sizes x_sight before_next (pos 4) (2 ^ 24 + 1) × (value_of before_next x_sight ≡ Ok (pos 4))
+WorkedSize = HasSize x_sizes x_sight before_next (pos 4) (2 ^ 24 + 1) × (value_of before_next x_sight ≡ Ok (pos 4))

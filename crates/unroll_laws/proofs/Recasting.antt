@@ -121,7 +121,7 @@ module _ (i : Input) (marked : ℕ → Bool) (m : Move) (r : IsRecast (length i.
         all : (k : ℕ) → marked k ≡ true → IsFound i (old_width (length i.params) m) (m.old).terms p k
         all k mk = let w = r.marked_new k mk in marked-old k mk (held-found i (new_width (length i.params) m) (m.new).terms q ((w.0).row).form (h w.0 w.1) k w.2)
 
-    same_spot : (a b : Access) → SaysAccess olds a b → spot q b ≡ spot p a
+    same_spot : (a b : Access) → SaysAccess (HasValue olds) a b → spot q b ≡ spot p a
     same_spot a b h =
         ap (λ (x : List ℕ). let y : Spot = record { array = x; at = three (map (value q) b.at) } in y) h.array
         ∙ ap (λ (is : List ℤ). let y : Spot = record { array = a.array; at = three is } in y) (pairs-map (HasValue olds) (value p) (value q) (λ f g k. form_says f g k) a.at b.at h.at)
@@ -130,7 +130,7 @@ module _ (i : Input) (marked : ℕ → Bool) (m : Move) (r : IsRecast (length i.
     same_step =
         ap (λ (x : Spot). let t : Step = record { target = x; how = (m.new).how; value = ground q (m.new).value } in t) (same_spot (m.old).target (m.new).target r.target)
         ∙ ap (λ (h : How). let t : Step = record { target = spot p (m.old).target; how = h; value = ground q (m.new).value } in t) r.how
-        ∙ ap (λ (g : Ground). let t : Step = record { target = spot p (m.old).target; how = (m.old).how; value = g } in t) (same_ground olds q (m.old).value (m.new).value r.body ∙ ap (λ (l : List ℤ). ground l (m.old).value) is)
+        ∙ ap (λ (g : Ground). let t : Step = record { target = spot p (m.old).target; how = (m.old).how; value = g } in t) (same_ground (HasValue olds) olds q (λ f g h. h) (m.old).value (m.new).value r.body ∙ ap (λ (l : List ℤ). ground l (m.old).value) is)
 
   -- ---- the terms' values
   abbrev new_terms : List ℤ → List ℤ

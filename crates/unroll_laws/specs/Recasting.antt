@@ -54,9 +54,9 @@ pub record IsRecast (params : ℕ) (marked : ℕ → Bool) (m : Move) : Type 0 w
   pub forms : length (m.piece).old ≡ length (m.old).levels
   pub positions : (m.new).positions ≡ (m.piece).positions
   pub terms : Pairwise (RecastsTerm marked (old_variables params m) (old_width params m) (new_width params m)) (m.old).terms (m.new).terms
-  pub target : SaysAccess (old_variables params m) (m.old).target (m.new).target
+  pub target : SaysAccess (HasValue (old_variables params m)) (m.old).target (m.new).target
   pub how : (m.new).how ≡ (m.old).how
-  pub body : SaysBody (old_variables params m) (m.old).value (m.new).value
+  pub body : SaysBody (HasValue (old_variables params m)) (m.old).value (m.new).value
   pub kept : List KernelRow
   pub recast : List KernelRow
   pub are_old : (r : KernelRow) → IsIn r kept → IsIn r (m.old).rows

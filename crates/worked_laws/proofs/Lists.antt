@@ -12,7 +12,7 @@ use Rattle.nest_tree.specs.Places.{IsBefore, place, IsInstance, Item, Precedes}
 use Rattle.nest_tree.specs.Forms.{coef}
 use Rattle.nest_tree.specs.Terms.{Input}
 use Rattle.nest_tree.specs.Kernels.{item_at, IsPointOf, IsItemOf, IsKernelList, AreDistinct}
-use Rattle.nest_tree.specs.Rewriting.{NamesNoTerm, IsWide, FitsWide, IsRewritten}
+use Rattle.nest_tree.specs.Rewriting.{NamesNoTerm, AreWithin, IsWide, FitsWide, IsRewritten}
 use Rattle.nest_tree.specs.Pieces.{IsLike}
 use Rattle.nest_laws.specs.Acts.{act}
 use Rattle.nest_laws.proofs.Made.{made_nest, rewritten-made}
@@ -44,6 +44,11 @@ pub short_rows : (w : ℕ) (rows : List KernelRow) → AllByRecursion (λ (r : K
 short_rows w [] h r a = absurd a
 short_rows w (s ∷ rows) h r (inl e) = subst (λ (k : KernelRow). length ((k.row).form).coefs ≤ w) (sym e) h.0
 short_rows w (s ∷ rows) h r (inr a) = short_rows w rows h.1 r a
+
+pub short_forms : (w : ℕ) (fs : List Aff) → AreShort w fs → AreWithin w fs
+short_forms w [] h f a = absurd a
+short_forms w (g ∷ fs) h f (inl e) = subst (λ (k : Aff). length k.coefs ≤ w) (sym e) h.0
+short_forms w (g ∷ fs) h f (inr a) = short_forms w fs h.1 f a
 
 pub like_itself : (f : Aff) → IsLike f f
 like_itself f = record { coefs = λ j. refl; constant = refl }

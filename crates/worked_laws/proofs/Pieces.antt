@@ -10,10 +10,12 @@ use Rattle.nest_tree.specs.Rewriting.{variables_of, IsWide, FitsWide, IsRewritte
 use Rattle.nest_tree.specs.Levels.{IsPermutation, NoTwice}
 use Rattle.nest_tree.specs.Pieces.{IsPermutedPiece, IsTiledPiece, IsSkewedPiece, IsPlacedPiece}
 use Rattle.nest_laws.proofs.Made.{made_nest, replaced_body, body_at}
+use Rattle.nest_laws.proofs.Acts.{ground-Const}
+use Rattle.nest_laws.proofs.Clashes.{no_access}
 use Rattle.nest_laws.proofs.Laws.{permute_law, tile_law, skew_law, place_pieces}
 use Rattle.worked_laws.specs.Statements.{one_cell, grid, moved, input}
 use Rattle.worked_laws.specs.Commands.{swapped, PermutedGrid, in_twos, TiledLoop, slanted, SkewedGrid, behind, PlacedLoop}
-use Rattle.worked_laws.proofs.Lists.{only, names_none, short_rows, like_itself, rewrites}
+use Rattle.worked_laws.proofs.Lists.{only, names_none, short_rows, short_forms, like_itself, rewrites}
 
 -- a number stays as it is
 made_is : (n : Nest) (p : Piece) (c : ℕ) → n.value ≡ Const c → n.terms ≡ [] → made_nest 1 n p ≡ (moved n p).new
@@ -31,10 +33,22 @@ made_is n p c e f =
     term_by n p t = record { array = t.array; at = map (replaced (variables_of 1 n p)) t.at }
 
 pub one_wide : IsWide 1 one_cell
-one_wide = record { shape = refl; rows = short_rows 2 one_cell.rows (omega arith, (omega arith, tt)); terms = λ t a. absurd a }
+one_wide = record {
+  shape = refl;
+  rows = short_rows 2 one_cell.rows (omega arith, (omega arith, tt));
+  terms = λ t a. absurd a;
+  target = short_forms 2 (one_cell.target).at (omega arith, tt);
+  reads = λ a r. absurd (no_access [] a (Const 1) 1 (ground-Const [] 1) r);
+}
 
 grid_wide : IsWide 1 grid
-grid_wide = record { shape = refl; rows = short_rows 3 grid.rows (omega arith, (omega arith, (omega arith, (omega arith, tt)))); terms = λ t a. absurd a }
+grid_wide = record {
+  shape = refl;
+  rows = short_rows 3 grid.rows (omega arith, (omega arith, (omega arith, (omega arith, tt))));
+  terms = λ t a. absurd a;
+  target = short_forms 3 (grid.target).at (omega arith, (omega arith, tt));
+  reads = λ a r. absurd (no_access [] a (Const 1) 1 (ground-Const [] 1) r);
+}
 
 -- ---- permute
 is_order : IsPermutation (2 ∷ 1 ∷ [])

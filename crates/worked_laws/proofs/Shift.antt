@@ -35,10 +35,10 @@ use Rattle.worked_laws.specs.Shift.{by_five, set_in, old_list, new_list, Shifted
 use Rattle.worked_laws.proofs.Lists.{only, distinct, past_end, names_none, like_itself, rewrites, two_points}
 use Rattle.worked_laws.proofs.Pieces.{one_wide}
 
-abbrev two : Input
+abbrev pub two : Input
 two = input (pos 2)
 
-abbrev moves : List Move
+abbrev pub moves : List Move
 moves = by_five ∷ []
 
 -- ---- the piece
@@ -51,7 +51,7 @@ made_is = ap (λ (b : Body). with_value by_five.new b) (body_at (variables_of 1 
     with_value : Nest → Body → Nest
     with_value k b = record { levels = k.levels; positions = k.positions; terms = k.terms; rows = k.rows; target = k.target; how = k.how; value = b; whole = k.whole }
 
-is_rewritten : IsRewritten 1 by_five
+pub is_rewritten : IsRewritten 1 by_five
 is_rewritten = rewrites 1 one_cell by_five.piece by_five.new one_wide fits made_is
 
 is_shift : IsShiftedPiece 1 1 (pos 5) 1 by_five.piece
@@ -120,7 +120,7 @@ Excludes m k = (a b : Access) (c d : Carrier) → Clash m.new k.new a b → IsLi
 all_excluded : (m k : Move) → m ≡ by_five → k ≡ by_five → Excludes m k
 all_excluded m k e f = subst (λ (x : Move). Excludes x k) (sym e) (subst (λ (x : Move). Excludes by_five x) (sym f) alone_excluded)
 
-tested : IsTested two moves (λ m. true) (λ m k. []) (one_cell ∷ []) (by_five.new ∷ [])
+pub tested : IsTested two moves (λ m. true) (λ m k. []) (one_cell ∷ []) (by_five.new ∷ [])
 tested = record {
   made = made;
   stands = λ m a. subst (StandsFor act two) (sym (only m by_five a)) stands;
@@ -183,7 +183,7 @@ list_is n v w l e f = subst (λ (x : Item Step). IsKernelList act two (n ∷ [])
 pub old_is : IsKernelList act two (one_cell ∷ []) old_list
 old_is = list_is one_cell (pos 0) (pos 1) (two_points two one_cell (pos 0) refl (old_point (pos 0) (omega (arith, ints)) (omega (arith, ints))) (old_point (pos 1) (omega (arith, ints)) (omega (arith, ints))) old_within) (old_item (pos 0)) (old_item (pos 1))
 
-new_is : IsKernelList act two (by_five.new ∷ []) new_list
+pub new_is : IsKernelList act two (by_five.new ∷ []) new_list
 new_is = list_is by_five.new (pos 5) (pos 6) (two_points two by_five.new (pos 5) refl (new_point (pos 5) (omega (arith, ints)) (omega (arith, ints))) (new_point (pos 6) (omega (arith, ints)) (omega (arith, ints))) new_within) (new_item (pos 5)) (new_item (pos 6))
 
 pub shifted_loop : ShiftedLoop

@@ -1,5 +1,5 @@
 use Rattle.std.proofs.Common.{◌≡◌, ◌+◌, drop}
-use Rattle.nest_core.specs.Order.{shared}
+use Rattle.nest_tree.specs.Carriers.{shared}
 use Rattle.nest_core.proofs.order.shared_loops.Given as goal
 
 abbrev pub invariant-loop-common : goal.invariant-loop-common
