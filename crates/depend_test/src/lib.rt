@@ -9,8 +9,6 @@ mod pair;
 mod put;
 mod quick;
 mod side;
-#[cfg(test)]
-mod tests;
 
 pub use compact::first_compact_dependence;
 pub use first::{first_dependence, first_dependence_among};
