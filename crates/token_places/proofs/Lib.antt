@@ -1,4 +1,3 @@
-pub mod Runs
-pub mod Fronts
+pub mod Pieces
 pub mod Tokens
 pub mod Worked

@@ -3,10 +3,10 @@ use Rattle.std.specs.Prelude.{◌≡◌, ℕ, List, ◌++◌, Some, None, refl, 
 use Rattle.c_tokens.specs.Signs.{sign_at, word_of, is_keyword}
 use Rattle.c_tokens.specs.Pieces.{piece, comment, sign, hash, token_of_run}
 use Rattle.token_places.specs.Marks.{marks_of}
-use Rattle.token_places.specs.Lines.{place_text, line_of}
+use Rattle.token_places.specs.Lines.{caret_text, line_of}
 
 abbrev told : (line column : ℕ) → List ℕ → List ℕ
-told line column spelled = place_text (record { line = line; column = column }) ++ codes ": " ++ spelled ++ codes "\n"
+told line column spelled = caret_text (record { line = line; column = column }) ++ codes ": " ++ spelled ++ codes "\n"
 
 -- the sign behind a comment, in the second line
 sign_in_line : line_of (codes "a /*\n*/ =<1") 2 ≡ Some (told 2 4 (codes "="))

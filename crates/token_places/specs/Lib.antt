@@ -1,4 +1,3 @@
-pub mod Fronts
 pub mod Marks
-pub mod Spots
+pub mod Carets
 pub mod Lines

@@ -9,9 +9,9 @@ use Rattle.c_tokens.specs.declared.token.Token.TheVariants as t
 use Rattle.c_tokens.specs.Pieces.{tokens_of}
 use Rattle.token_places.specs.declared.marks.Mark.{Mark}
 use Rattle.token_places.specs.declared.marks.TooFew.{TooFew}
-use Rattle.token_places.specs.declared.spot.Spot.{Spot}
+use Rattle.token_places.specs.declared.caret.Caret.{Caret}
 use Rattle.token_places.specs.Marks.{marks_of}
-use Rattle.token_places.specs.Spots.{spot_of}
+use Rattle.token_places.specs.Carets.{caret_of}
 
 -- a byte as it is shown: `?` for one that can't be printed
 abbrev pub printable : ℕ → ℕ
@@ -22,12 +22,12 @@ abbrev pub shown : Token → List ℕ → List ℕ
 shown t.Bad bytes = map printable (take 20 bytes)
 shown _ bytes = bytes
 
-abbrev pub place_text : Spot → List ℕ
-place_text s = codes "line " ++ decimal s.line ++ codes ", column " ++ decimal s.column
+abbrev pub caret_text : Caret → List ℕ
+caret_text c = codes "line " ++ decimal c.line ++ codes ", column " ++ decimal c.column
 
 -- where a token stands in a text, and how it is spelled there
 abbrev pub mark_line : List ℕ → Mark → List ℕ
-mark_line text m = place_text (spot_of (take m.at text)) ++ codes ": " ++ shown m.token (take m.len (drop m.at text)) ++ 10 ∷ []
+mark_line text m = caret_text (caret_of (take m.at text)) ++ codes ": " ++ shown m.token (take m.len (drop m.at text)) ++ 10 ∷ []
 
 -- the line of a text's token of that number, counted from 1
 abbrev pub line_of : List ℕ → ℕ → Option (List ℕ)

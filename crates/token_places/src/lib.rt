@@ -1,15 +1,12 @@
 //! Where the tokens of a program's text stand.
 #![tactic(auto)]
 
-mod front;
+mod caret;
 mod laws;
 mod line;
 mod marks;
-mod spot;
-#[cfg(test)]
-mod tests;
 
+pub use caret::{Caret, caret_behind};
 pub use laws::tokens_have_marks;
 pub use line::place_line;
 pub use marks::{Mark, TooFew, nth_mark};
-pub use spot::{Spot, spot_behind};

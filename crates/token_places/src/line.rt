@@ -1,9 +1,9 @@
 // The line that tells the place of a token and its spelling.
 ghost use Rattle.std.specs.Prelude.{◌≡◌, ◌≤◌, ◌++◌, map, Some, OnOk, IfOk, IfErr};
-ghost use Rattle.token_places.specs.Lines.{printable, shown, place_text, line_of, IfTooFew, HasFewer};
+ghost use Rattle.token_places.specs.Lines.{printable, shown, caret_text, line_of, IfTooFew, HasFewer};
 
+use crate::caret::{Caret, caret_behind};
 use crate::marks::{TooFew, nth_mark};
-use crate::spot::{Spot, spot_behind};
 use c_tokens::Token;
 use chill_base::{List, NoMemory, Stop, Text};
 use itoa::Buffer;
@@ -37,14 +37,14 @@ fn push_shown(text: &mut Vec<u8>, token: Token, bytes: &[u8]) -> Result<(), NoMe
     }
 }
 
-fn push_spot(text: &mut Vec<u8>, spot: Spot) -> Result<(), NoMemory>
-    ensures { OnOk result (text.new.items ≡ text.old.items ++ place_text spot) }
+fn push_caret(text: &mut Vec<u8>, caret: Caret) -> Result<(), NoMemory>
+    ensures { OnOk result (text.new.items ≡ text.old.items ++ caret_text caret) }
 {
     let mut buffer = Buffer::new();
     text.extend_from_slice(b"line ")?;
-    text.extend_from_slice(buffer.format(spot.line as u64).as_bytes())?;
+    text.extend_from_slice(buffer.format(caret.line as u64).as_bytes())?;
     text.extend_from_slice(b", column ")?;
-    text.extend_from_slice(buffer.format(spot.column as u64).as_bytes())?;
+    text.extend_from_slice(buffer.format(caret.column as u64).as_bytes())?;
     Ok(())
 }
 
@@ -58,9 +58,9 @@ pub fn place_line(alloc: Global, text: &[u8], number: usize) -> Result<Text, Sto
         Ok(mark) => mark,
         Err(few) => return Err(Stop::Refused(few)),
     };
-    let spot = spot_behind(&text[..mark.at]);
+    let caret = caret_behind(&text[..mark.at]);
     let mut line = Vec::new(alloc);
-    push_spot(&mut line, spot)?;
+    push_caret(&mut line, caret)?;
     line.extend_from_slice(b": ")?;
     push_shown(&mut line, mark.token, &text[mark.at..mark.at + mark.len])?;
     line.push(b'\n')?;

@@ -2,8 +2,7 @@
 ghost use Rattle.std.specs.Prelude.{◌≡◌, ◌≤◌, ◌<◌, ◌-◌, ◌+◌, length, slice_get, Some, IfOk, IfErr};
 ghost use Rattle.token_places.specs.Marks.{marks_of};
 
-use crate::front::{Front, Margin, front_of};
-use c_tokens::Token;
+use c_tokens::{Margin, Piece, Token, first_piece};
 
 /// A token, how many bytes stand before it, and how many it has.
 #[derive(Clone, Copy)]
@@ -30,12 +29,12 @@ pub fn nth_mark(text: &[u8], number: usize) -> Result<Mark, TooFew>
     let mut margin = Margin::Start;
     let mut at = 0;
     let mut seen = 0;
-    'fronts: while at < text.len() {
-        let Front {
+    'pieces: while at < text.len() {
+        let Piece {
             token,
             len,
             margin: next,
-        } = front_of(margin, &text[at..]);
+        } = first_piece(margin, &text[at..]);
         if let Some(token) = token {
             seen += 1;
             if seen == number {

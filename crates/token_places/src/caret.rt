@@ -1,26 +1,26 @@
 // Lines and columns.
 ghost use Rattle.std.specs.Prelude.{◌≡◌, ◌<◌, length, ◌^◌};
-ghost use Rattle.token_places.specs.Spots.{spot_of};
+ghost use Rattle.token_places.specs.Carets.{caret_of};
 
 /// A line and a column, both counted from 1; a column is a byte.
 #[derive(Clone, Copy, Debug, PartialEq, Eq)]
-pub struct Spot {
+pub struct Caret {
     pub line: usize,
     pub column: usize,
 }
 
 /// The place behind a text.
-pub fn spot_behind(before: &[u8]) -> Spot
-    ensures { result ≡ spot_of before.now }
+pub fn caret_behind(before: &[u8]) -> Caret
+    ensures { result ≡ caret_of before.now }
 {
-    let mut spot = Spot { line: 1, column: 1 };
+    let mut caret = Caret { line: 1, column: 1 };
     for b in before {
         if *b == b'\n' {
-            spot.line += 1;
-            spot.column = 1;
+            caret.line += 1;
+            caret.column = 1;
         } else {
-            spot.column += 1;
+            caret.column += 1;
         }
     }
-    spot
+    caret
 }
