@@ -1,0 +1,4 @@
+pub mod Unchanged
+pub mod Recounting
+pub mod Bounded
+pub mod Examples
