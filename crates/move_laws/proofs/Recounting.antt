@@ -1,10 +1,11 @@
 -- Positions that are counted anew keep the order of statements and the loops that they share.
-use Rattle.std.proofs.Common.{◌≡◌, ◌⊎◌, inl, inr, ℕ, zero, suc, ◌+◌, ◌-◌, ◌<◌, Bool, true, false, cond, List, [], ◌∷◌, ◌++◌, length, take, refl, ◌∙◌, ap, arith, nat_eq, nat_lt, min}
+use Rattle.std.proofs.Common.{◌≡◌, ◌⊎◌, inl, inr, ℕ, zero, suc, ◌+◌, ◌-◌, ◌<◌, Bool, true, false, cond, List, [], ◌∷◌, ◌++◌, length, take, refl, sym, subst, ◌∙◌, ap, arith, nat_eq, nat_lt, min}
 use Rattle.std.specs.Prelude.{replicate, slice_index_or}
 use Rattle.std.proofs.lemmas.Bool.{eqb-true, eq-eqb, ltb-true, lt-ltb}
 use Rattle.nest_tree.specs.Carriers.{shared}
-use Rattle.nest_core.specs.Order.{is_earlier, next_positions}
-use Rattle.move_laws.specs.Recounting.{Positions, recounted, AreInOrder, StandAlike, RecountingKeepsOrder}
+use Rattle.nest_tree.specs.declared.kernel.Nest.{Nest}
+use Rattle.nest_core.specs.Order.{is_earlier, next_positions, at_positions, numbered, numbered_after}
+use Rattle.move_laws.specs.Recounting.{Positions, recounted, AreInOrder, StandAlike, RecountingKeepsOrder, positions_of, NumberingKeepsOrder}
 
 differ : (p q : ℕ) → (p ≡ q → ⊥) → nat_eq p q ≡ false
 differ p q h = by (nat_eq p q) refl
@@ -167,3 +168,26 @@ recounting old new (p ∷ ps) h l o =
     let e : is_earlier new q ≡ true = ap (is_earlier new) is ∙ earlier-next (shared old p) new (length p - suc (shared old p)) c in
     let n : length q ≡ length p = ap (λ (x : Positions). length x) is ∙ length-next (shared old p) new (length p - suc (shared old p)) c ∙ omega (arith, d) in
     (s, e, n, through old new p q s e o.0 ps (recounted p q ps) (in_order-all p ps o.2) (recounting p q ps o.1 n o.2))
+
+-- the code's numbering counts positions so
+numbered-counts : (old new : Positions) (ns : List Nest) → positions_of (numbered_after old new ns) ≡ recounted old new (positions_of ns)
+numbered-counts old new [] = refl
+numbered-counts old new (n ∷ ns) =
+    let ps : Positions = next_positions (shared old n.positions) new (length n.positions) in
+    ap (λ (l : List Positions). ps ∷ l) (numbered-counts n.positions ps ns)
+
+pub numbering : NumberingKeepsOrder
+unfolding numbered
+numbering n ns h o =
+    let first : Positions = replicate (length n.positions) 0 in
+    let l : length first ≡ length n.positions = length-replicate (length n.positions) 0 in (
+      at_positions n first,
+      numbered_after n.positions first ns,
+      refl,
+      l,
+      subst (StandAlike n.positions first (positions_of ns)) (sym (numbered-counts n.positions first ns)) (recounting n.positions first (positions_of ns) h l o),
+    )
+  where
+    length-replicate : (k x : ℕ) → length {A = ℕ} (replicate k x) ≡ k
+    length-replicate zero x = refl
+    length-replicate (suc k) x = ap suc (length-replicate k x)

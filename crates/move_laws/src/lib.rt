@@ -2,7 +2,7 @@
 #![tactic(auto)]
 
 ghost use Rattle.move_laws.specs.Unchanged.{UnchangedKeepsEffect};
-ghost use Rattle.move_laws.specs.Recounting.{RecountingKeepsOrder};
+ghost use Rattle.move_laws.specs.Recounting.{RecountingKeepsOrder, NumberingKeepsOrder};
 ghost use Rattle.move_laws.specs.Bounded.{RewrittenStaysBounded};
 ghost use Rattle.move_laws.specs.Examples.{UnchangedLoop, BoundedLoop, RecountedPositions};
 
@@ -14,6 +14,11 @@ pub fn unchanged_keeps_effect()
 /// Positions that are counted anew keep the order of statements and the loops that they share.
 pub fn recounting_keeps_order()
     ensures { RecountingKeepsOrder }
+{}
+
+/// Statements that are numbered anew keep their order and the loops that they share.
+pub fn numbering_keeps_order()
+    ensures { NumberingKeepsOrder }
 {}
 
 /// A rewritten statement is bounded in every direction where the old one is.
