@@ -1,0 +1,12 @@
+pub mod Reached
+pub mod Formed
+pub mod Plain
+pub mod Rows
+pub mod Scopes
+pub mod Listed
+pub mod Seen
+pub mod Trees
+pub mod Kept
+pub mod Scene
+pub mod Placed
+pub mod Safe
