@@ -1,0 +1,16 @@
+pub mod Reads
+pub mod Tables
+pub mod Named
+pub mod Projections
+pub mod Ranges
+pub mod Asked
+pub mod Sizes
+pub mod Written
+pub mod Shapes
+pub mod Parts
+pub mod Sides
+pub mod Heads
+pub mod Assignments
+pub mod Scanned
+pub mod Kernels
+pub mod Examples

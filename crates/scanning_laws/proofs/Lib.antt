@@ -1,0 +1,16 @@
+pub mod Derived
+pub mod Printed
+pub mod Bounded
+pub mod Knowing
+pub mod Asking
+pub mod Tested
+pub mod Valued
+pub mod Opening
+pub mod Assigning
+pub mod Naming
+pub mod Bodies
+pub mod Triangle
+pub mod Fused
+pub mod Product
+pub mod Tiles
+pub mod Tables
