@@ -14,3 +14,5 @@ pub mod Fused
 pub mod Product
 pub mod Tiles
 pub mod Tables
+pub mod Laws
+pub mod Examples
