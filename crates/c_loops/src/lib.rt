@@ -1,6 +1,7 @@
 //! Reading programs.
 #![tactic(auto)]
 
+mod guard;
 mod halt;
 mod index;
 mod judged;

@@ -16,7 +16,7 @@ use Rattle.inspectors.specs.Expressions.{column, is_square, value, offset, width
 use Rattle.inspectors.specs.Marks.{mark_lines, compact_lines}
 use Rattle.sparse_marks.specs.Matrices.{Csr, Entry, count, entries_before, entries}
 use Rattle.sparse_marks.specs.Forms.{Form, group_by, groups_by, groups, placed, value_at, least_value, greatest_value}
-use Rattle.sparse_marks.specs.Walks.{walk, sum_below}
+use Rattle.sparse_marks.specs.Walks.{walk, met_before, sum_below}
 use Rattle.sparse_marks.proofs.Ranges.{value_inside}
 use Rattle.sparse_marks.proofs.Telling.{met_is, rising_by, groups_above}
 use Rattle.inspector_runs.specs.Rules.{Goes}

@@ -1,7 +1,7 @@
 use Rattle.std.proofs.Common.{◌≡◌, length}
 use Rattle.c_grammar.specs.ReadStatement as spec
 use Rattle.c_grammar.specs.Reader.{many}
-use Rattle.c_loops.proofs.statement.tests.Given as goal
+use Rattle.c_loops.proofs.guard.tests.Given as goal
 
 -- what is left to read gives what the whole gives
 abbrev pub invariant-tests : goal.invariant-tests
