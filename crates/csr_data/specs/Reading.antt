@@ -103,3 +103,14 @@ told (Some NoMemory) h more = rest_of h more
 abbrev pub stop_of : Halt → Stop ValuesFault
 stop_of (Fault f) = Refused f
 stop_of NoMemory = stop.NoMemory
+
+-- what a reader that has stopped answers from then on
+abbrev pub Repeats : {A : Type 0} → Option Halt → Result A (Stop ValuesFault) → Type 0
+Repeats None result = Unit {0}
+Repeats (Some halt) result = result ≡ Err (stop_of halt)
+
+-- a reader that gives a fault, or finds no memory, has stopped with that; else it hasn't stopped
+abbrev pub Stops : {A : Type 0} → Result A (Stop ValuesFault) → Option Halt → Type 0
+Stops (Ok a) halt = halt ≡ None
+Stops (Err stop) None = ⊥
+Stops (Err stop) (Some halt) = stop ≡ stop_of halt

@@ -5,7 +5,7 @@ ghost use Rattle.csr_data.specs.Divisors.{ExtentsHaveDivisors};
 ghost use Rattle.csr_data.specs.Parameters.{AreSmall};
 ghost use Rattle.csr_data.specs.Values.{params_of};
 ghost use Rattle.csr_data.specs.Lines.{dues, says_from};
-ghost use Rattle.csr_data.specs.Reading.{told, checked, ReadsStop, TellsStop};
+ghost use Rattle.csr_data.specs.Reading.{told, checked, ReadsStop, TellsStop, Repeats, Stops};
 
 use crate::fault::{Halt, ValuesFault};
 use crate::parts::Held;
@@ -29,6 +29,7 @@ impl<'a> DataReader<'a> {
         requires rules { KeepsRules program.now }
         requires divisors { ExtentsHaveDivisors program.now }
         ensures taken { IfOk result (λ r. r.taken ≡ 0) }
+        ensures goes { IfOk result (λ r. r.halt ≡ None) }
         ensures program { IfOk result (λ r. r.held.program.now ≡ program.now) }
         // What a text says is what its lines say.
         ensures told { IfOk result (λ r. (more : List ℕ) → told r.halt r.held more ≡ says_from 1 (dues program.now) (record { params = []; arrays = [] }) more) }
@@ -55,6 +56,8 @@ impl<'a> DataReader<'a> {
         ensures program { OnOk result (self.new.held.program ≡ self.old.held.program) }
         // Whatever is still to come, the text says the same by what is held before and behind the piece; or the fault.
         ensures reads { ReadsStop result (λ more. told self.old.halt self.old.held (piece.now ++ more)) (told self.new.halt self.new.held) }
+        ensures stops { Stops result self.new.halt }
+        ensures repeats { Repeats self.old.halt result }
     {
         match self.halt {
             Some(halt) => Err(halt.stop()),
@@ -70,6 +73,7 @@ impl<'a> DataReader<'a> {
         ensures stays { OnErr result (self.new.taken ≡ self.old.taken) }
         ensures program { OnOk result (self.new.held.program ≡ self.old.held.program) }
         ensures reads { ReadsStop result (λ more. told self.old.halt self.old.held (piece.now ++ more)) (told self.new.halt self.new.held) }
+        ensures stops { Stops result self.new.halt }
     {
         match self.held.take_all(piece) {
             Ok(()) => {
@@ -87,6 +91,7 @@ impl<'a> DataReader<'a> {
     pub fn finish(self) -> Result<Values, Stop<ValuesFault>>
         ensures small { IfOk result (λ values. AreSmall (params_of values)) }
         ensures tells { TellsStop result (checked self.entry.held.program.now (told self.entry.halt self.entry.held [])) }
+        ensures repeats { Repeats self.entry.halt result }
     {
         let DataReader { held, halt, .. } = self;
         match halt {
