@@ -1,19 +1,24 @@
 -- What a command answers by its moves, and what it leaves.
-use Rattle.std.specs.Prelude.{◌≡◌, ◌⊎◌, ⊤, Option, Some, None, Result, Ok, Err}
+use Rattle.std.specs.Prelude.{◌≡◌, ◌⊎◌, ⊤, ℕ, Bool, false, nat_eq, length, Option, Some, None, Result, Ok, Err}
 use Rattle.chill_base.specs.declared.faults.Stop.{Stop}
 use Rattle.chill_base.specs.declared.faults.Stop.TheVariants.{Refused, NoMemory}
 use Rattle.nest_tree.specs.declared.fault.CommandFault.{CommandFault}
-use Rattle.nest_tree.specs.declared.fault.CommandFault.TheVariants.{Shape, Overflow}
+use Rattle.nest_tree.specs.declared.fault.CommandFault.TheVariants.{Shape, Depends, Overflow}
 use Rattle.nest_tree.specs.declared.fault.ShapeWhy.{ShapeWhy}
 use Rattle.int_rows.specs.declared.row.Excess.{Excess}
 use Rattle.nest_core.specs.Making.{after}
 use Rattle.nest_tree.specs.declared.kernel.Kernel.{Kernel}
+use Rattle.nest_tree.specs.declared.kernel.Nest.{Nest}
 use Rattle.nest_tree.specs.declared.moves.Moves.{Moves}
 use Rattle.nest_core.specs.Pieces.{kernel_made}
 
 abbrev pub shape_fault : Stop ShapeWhy → Stop CommandFault
 shape_fault (Refused why) = Refused (Shape why)
 shape_fault NoMemory = NoMemory
+
+abbrev pub overflow_fault : Stop Excess → Stop CommandFault
+overflow_fault (Refused excess) = Refused (Overflow excess)
+overflow_fault NoMemory = NoMemory
 
 -- the new kernel is the one that these moves make of the old one
 abbrev pub IsMade : Kernel → Kernel → Result Moves ShapeWhy → Type 0
@@ -55,3 +60,16 @@ untested k moves = after (shaped moves) (kernel_after k)
 abbrev pub IsUnrolled : Kernel → Kernel → Option Moves → Type 0
 IsUnrolled old new None = ⊥
 IsUnrolled old new (Some m) = kernel_made old m ≡ Ok new
+
+-- no loop stands inside the level's
+abbrev pub is_innermost : ℕ → Option Nest → Bool
+is_innermost level (Some n) = nat_eq (length n.levels) level
+is_innermost level None = false
+
+-- a command that isn't tested: where it is refused, that is for no dependence
+abbrev pub NamesNoDependence : {A : Type 0} → Result A (Stop CommandFault) → Type 0
+NamesNoDependence (Ok x) = ⊤
+NamesNoDependence (Err (Refused (Shape why))) = ⊤
+NamesNoDependence (Err (Refused (Depends d))) = ⊥
+NamesNoDependence (Err (Refused (Overflow excess))) = ⊤
+NamesNoDependence (Err NoMemory) = ⊤

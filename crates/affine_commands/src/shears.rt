@@ -6,7 +6,7 @@ ghost use Rattle.nest_core.specs.Pieces.{kernel_made};
 ghost use Rattle.affine_moves.specs.Moves.{shift_moves, skew_moves};
 ghost use Rattle.affine_commands.specs.Commands.{IsMoved, Refuses, overflowed, untested};
 
-use crate::fault::shape_fault;
+use crate::fault::{overflow_fault, shape_fault};
 use affine_moves::{shift_moves, skew_moves};
 use chill_base::Stop;
 use depend_test::apply_tested;
@@ -44,8 +44,7 @@ fn put(alloc: Global, kernel: &mut Kernel, moves: &Moves) -> Result<(), Stop<Com
 {
     match apply_pieces(alloc, kernel, moves) {
         Ok(()) => Ok(()),
-        Err(Stop::Refused(excess)) => Err(Stop::Refused(CommandFault::Overflow(excess))),
-        Err(Stop::NoMemory) => Err(Stop::NoMemory),
+        Err(stop) => Err(overflow_fault(stop)),
     }
 }
 

@@ -1,39 +1,79 @@
 // `unroll`.
-ghost use Rattle.std.specs.Prelude.{◌≡◌, Ok, OnOk, OnErr};
-ghost use Rattle.nest_core.specs.Pieces.{kernel_made};
+ghost use Rattle.std.specs.Prelude.{◌≡◌, Ok, OnOk, OnErr, IfOk, IsTrue, slice_get};
+ghost use Rattle.nest_core.specs.Pieces.{kernel_made, moved_nests};
 ghost use Rattle.nest_core.specs.Shapes.{IsShaped, Fits};
 ghost use Rattle.unroll.specs.Moves.{unrolled};
-ghost use Rattle.affine_commands.specs.Commands.{IsUnrolled};
+ghost use Rattle.affine_commands.specs.Commands.{IsUnrolled, NamesNoDependence};
+ghost use Rattle.affine_commands.specs.Commands as spec;
 
-use crate::fault::shape_fault;
-use chill_base::Stop;
-use depend_test::{apply_tested, overflow};
+use crate::fault::{overflow_fault, shape_fault};
+use chill_base::{List, Stop};
+use depend_test::apply_tested;
 use nest_core::make_nests;
 use nest_limits::are_within;
-use nest_tree::{CommandFault, Kernel, Moves, ShapeWhy};
+use nest_tree::{CommandFault, Kernel, Moves, Nest, ShapeWhy};
 use std::alloc::Global;
 use unroll::unroll_moves;
 
-/// Puts tested pieces in the place of the statements, unless the new expressions have too many brackets.
+/// The statements after the moves, unless their expressions have too many brackets.
+fn make_within(
+    alloc: Global,
+    kernel: &Kernel,
+    moves: &Moves,
+) -> Result<List<Nest>, Stop<CommandFault>>
+    requires shaped { IsShaped kernel.now }
+    requires fits { Fits kernel.now moves.now }
+    ensures made { IfOk result (λ nests. moved_nests kernel.now moves.now ≡ Ok nests) }
+    ensures untested { NamesNoDependence result }
+{
+    let nests = match make_nests(alloc, kernel, moves) {
+        Ok(nests) => nests,
+        Err(stop) => return Err(overflow_fault(stop)),
+    };
+    if !are_within(&kernel.head, nests.as_slice()) {
+        return Err(Stop::Refused(CommandFault::Shape(ShapeWhy::Limit)));
+    }
+    Ok(nests)
+}
+
+/// Puts pieces that keep the order of all instances in the place of the statements.
 fn put_within(alloc: Global, kernel: &mut Kernel, moves: &Moves) -> Result<(), Stop<CommandFault>>
     requires shaped { IsShaped kernel.old }
     requires fits { Fits kernel.old moves.now }
     ensures shaped { OnOk result (IsShaped kernel.new) }
     ensures refused { OnErr result (kernel.new ≡ kernel.old) }
     ensures made { OnOk result (kernel_made kernel.old moves.now ≡ Ok kernel.new) }
+    ensures untested { NamesNoDependence result }
 {
-    let nests = match make_nests(alloc, kernel, moves) {
-        Ok(nests) => nests,
-        Err(stop) => return Err(overflow(stop)),
-    };
-    if !are_within(&kernel.head, nests.as_slice()) {
-        return Err(Stop::Refused(CommandFault::Shape(ShapeWhy::Limit)));
-    }
+    kernel.nests = make_within(alloc, kernel, moves)?;
+    Ok(())
+}
+
+/// Puts tested pieces in the place of the statements.
+fn test_within(alloc: Global, kernel: &mut Kernel, moves: &Moves) -> Result<(), Stop<CommandFault>>
+    requires shaped { IsShaped kernel.old }
+    requires fits { Fits kernel.old moves.now }
+    ensures shaped { OnOk result (IsShaped kernel.new) }
+    ensures refused { OnErr result (kernel.new ≡ kernel.old) }
+    ensures made { OnOk result (kernel_made kernel.old moves.now ≡ Ok kernel.new) }
+{
+    make_within(alloc, kernel, moves)?;
     apply_tested(alloc, kernel, moves)
 }
 
+/// Whether the level is the innermost loop around the statement.
+fn is_innermost(kernel: &Kernel, statement: usize, level: usize) -> bool
+    ensures { result ≡ spec.is_innermost level (slice_get kernel.now.nests statement) }
+{
+    match kernel.nests.get(statement) {
+        Some(nest) => nest.levels.len() == level,
+        None => false,
+    }
+}
+
 /// The level counts groups of so many of its values: the full loop has a copy of each statement for each value of a group,
-/// and each upper row has a loop of its own for what it leaves of the last group.
+/// and each upper row has a loop of its own for what it leaves of the last group. Where no loop stands inside, the order of
+/// instances stays, so there is no test.
 pub fn unroll(
     alloc: Global,
     kernel: &mut Kernel,
@@ -45,9 +85,15 @@ pub fn unroll(
     ensures shaped { OnOk result (IsShaped kernel.new) }
     ensures refused { OnErr result (kernel.new ≡ kernel.old) }
     ensures made { OnOk result (IsUnrolled kernel.old kernel.new (unrolled kernel.old statement level factor)) }
+    ensures untested { IsTrue (spec.is_innermost level (slice_get kernel.old.nests statement)) → NamesNoDependence result }
 {
-    match unroll_moves(alloc, kernel, statement, level, factor) {
-        Ok(moves) => put_within(alloc, kernel, &moves),
-        Err(stop) => Err(shape_fault(stop)),
+    let moves = match unroll_moves(alloc, kernel, statement, level, factor) {
+        Ok(moves) => moves,
+        Err(stop) => return Err(shape_fault(stop)),
+    };
+    if is_innermost(kernel, statement, level) {
+        put_within(alloc, kernel, &moves)
+    } else {
+        test_within(alloc, kernel, &moves)
     }
 }

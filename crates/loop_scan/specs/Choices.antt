@@ -1,12 +1,11 @@
 -- From which rows the bounds of a loop are made.
-use Rattle.std.specs.Prelude.{ℕ, Bool, true, false, cond, List, [], ◌∷◌, ◌&&◌, filter, pos}
+use Rattle.std.specs.Prelude.{ℕ, Bool, true, false, cond, List, [], ◌∷◌, ◌&&◌, pos}
 use Rattle.std.specs.Int.Signed.{lt_z}
 use Rattle.std.specs.List.{list_all, list_any}
 use Rattle.c_tree.specs.declared.statement.Stmt.{Stmt}
 use Rattle.c_tree.specs.declared.statement.Stmt.TheVariants.{If}
 use Rattle.c_tree.specs.declared.statement.Test.{Test}
 use Rattle.scan_forms.specs.declared.claim.Claim.{Claim}
-use Rattle.scan_forms.specs.Numbers.{are_zero}
 use Rattle.scan_forms.specs.Forms.{level_of, same_claim}
 use Rattle.scan_forms.specs.Bounds.{same_bounds}
 use Rattle.loop_scan.specs.declared.sides.Sides.{Sides}
@@ -21,10 +20,6 @@ same_claims (c ∷ cs) (d ∷ ds) = same_claim c d && same_claims cs ds
 abbrev pub are_alike : List (List Claim) → Bool
 are_alike [] = true
 are_alike (l ∷ ls) = list_all (same_claims l) ls
-
--- the rows that hold no read
-abbrev pub without_reads : List Claim → List Claim
-without_reads cs = filter (λ c. are_zero c.form.reads) cs
 
 -- a row bounds the level from below, or from above
 abbrev pub has_lower : ℕ → List Claim → Bool

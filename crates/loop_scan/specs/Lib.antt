@@ -3,3 +3,4 @@ pub mod Asking
 pub mod Heads
 pub mod Nested
 pub mod Choices
+pub mod Safety

@@ -8,6 +8,8 @@ mod head;
 mod loops;
 mod nests;
 mod part;
+mod project;
+mod safe;
 mod sides;
 
 pub use loops::scan;

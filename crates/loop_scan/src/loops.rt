@@ -10,6 +10,7 @@ use crate::group::{Group, group_end};
 use crate::head::{Head, ask_bounds, printed_sides, write_head, writer};
 use crate::nests::nest_at;
 use crate::part::{Part, make_parts};
+use crate::safe::Opening;
 use crate::sides::{Sides, all_sides};
 use c_tree::{Program, Stmt, Test};
 use chill_base::{List, NoMemory, Stop};
@@ -132,7 +133,13 @@ fn open_loop(
     requires parts { length parts.old ≡ length kernel.now.nests }
     requires group { IsGroup kernel.now.nests group }
 {
-    let all = all_sides(alloc, kernel, table, parts, group)?;
+    let opening = Opening {
+        alloc,
+        kernel,
+        group,
+        context: around.context.as_slice(),
+    };
+    let all = all_sides(opening, table, parts)?;
     open(
         alloc,
         kernel,

@@ -9,12 +9,12 @@ ghost use Rattle.loop_scan.specs.Choices as spec;
 use crate::group::Group;
 use crate::nests::nest_at;
 use crate::part::{Part, origin_of, push_order};
+use crate::project::project;
+use crate::safe::{Answers, Opening, safe_claims};
 use chill_base::{List, NoMemory, Stop};
-use nest_systems::{Projection, direct_rows, project_level};
+use nest_systems::{Projection, direct_rows};
 use nest_tree::{Kernel, Nest};
-use scan_forms::{
-    Bounds, Claim, Origin, ScanFault, Table, make_bounds, overflow, place_row, push_claims,
-};
+use scan_forms::{Bounds, Claim, Origin, ScanFault, Table, make_bounds, place_row, push_claims};
 use std::alloc::Global;
 
 /// The most bounds of one side.
@@ -101,19 +101,6 @@ fn are_alike(lists: &[List<Claim>]) -> bool
     }
 }
 
-/// Copies of the claims that hold no read.
-fn without_reads(alloc: Global, claims: &[Claim]) -> Result<List<Claim>, NoMemory>
-    ensures { IfOk result (λ kept. kept ≡ spec.without_reads claims.now) }
-{
-    let mut kept = List::new(alloc);
-    for claim in claims {
-        if !claim.form.has_reads() {
-            kept.push(claim.copy(alloc)?)?;
-        }
-    }
-    Ok(kept)
-}
-
 /// Whether a claim bounds the level from below.
 fn has_lower(level: usize, claims: &[Claim]) -> bool
     ensures { result ≡ spec.has_lower level claims.now }
@@ -184,44 +171,29 @@ fn left_sides(
     sides_of(alloc, level, used, order)
 }
 
-/// What is left of a statement's rows at a level. In a loop of its own, terms that are known before may stay.
-#[tactic(auto, using(crate::proofs::Places::places_of))]
-fn project(
-    alloc: Global,
-    kernel: &Kernel,
-    statement: usize,
-    group: Group,
-) -> Result<Projection, Stop<ScanFault>>
-    requires shaped { IsShaped kernel.now }
-    requires group { IsGroup kernel.now.nests group }
-    requires low { group.from ≤ statement }
-    requires high { statement < group.to }
-    ensures { IfOk result (λ left. IsTrue (list_all term_has_places left.terms)) }
-{
-    let all_terms = group.to - group.from > 1;
-    match project_level(alloc, kernel, statement, group.level, all_terms) {
-        Ok(left) => Ok(left),
-        Err(stop) => Err(overflow(stop)),
-    }
-}
-
 /// The sides by the rows that are left where later levels, and terms that can't bound the level, are eliminated.
 fn projected(
-    alloc: Global,
-    kernel: &Kernel,
+    opening: Opening<'_>,
     table: &mut Table,
     part: &Part,
     statement: usize,
-    group: Group,
+    answers: &mut Answers,
 ) -> Result<Sides, Stop<ScanFault>>
-    requires shaped { IsShaped kernel.now }
-    requires group { IsGroup kernel.now.nests group }
-    requires low { group.from ≤ statement }
-    requires high { statement < group.to }
+    requires shaped { IsShaped opening.kernel.now }
+    requires group { IsGroup opening.kernel.now.nests opening.group }
+    requires low { opening.group.from ≤ statement }
+    requires high { statement < opening.group.to }
 {
-    let left = project(alloc, kernel, statement, group)?;
-    let origin = origin_of(&kernel.head, nest_at(kernel, statement));
-    Ok(left_sides(alloc, table, origin, part, group.level, &left)?)
+    let left = project(opening, table, statement, answers)?;
+    let origin = origin_of(&opening.kernel.head, nest_at(opening.kernel, statement));
+    Ok(left_sides(
+        opening.alloc,
+        table,
+        origin,
+        part,
+        opening.group.level,
+        &left,
+    )?)
 }
 
 /// The sides of a statement by its direct rows.
@@ -239,90 +211,72 @@ fn direct_sides(
 
 /// The sides of a statement by its direct rows, or else by projection.
 fn make_sides(
-    alloc: Global,
-    kernel: &Kernel,
+    opening: Opening<'_>,
     table: &mut Table,
     part: &Part,
     statement: usize,
-    group: Group,
     direct: &[Claim],
+    answers: &mut Answers,
 ) -> Result<Sides, Stop<ScanFault>>
-    requires shaped { IsShaped kernel.now }
-    requires group { IsGroup kernel.now.nests group }
-    requires low { group.from ≤ statement }
-    requires high { statement < group.to }
+    requires shaped { IsShaped opening.kernel.now }
+    requires group { IsGroup opening.kernel.now.nests opening.group }
+    requires low { opening.group.from ≤ statement }
+    requires high { statement < opening.group.to }
 {
-    if has_lower(group.level, direct) && has_upper(group.level, direct) {
-        Ok(direct_sides(alloc, part, group.level, direct)?)
+    let level = opening.group.level;
+    if has_lower(level, direct) && has_upper(level, direct) {
+        Ok(direct_sides(opening.alloc, part, level, direct)?)
     } else {
-        projected(alloc, kernel, table, part, statement, group)
+        projected(opening, table, part, statement, answers)
     }
 }
 
 /// The sides of each statement of a loop whose direct rows are alike. The rows that the bounds say are settled.
 fn alike_sides(
-    alloc: Global,
-    kernel: &Kernel,
+    opening: Opening<'_>,
     table: &mut Table,
     parts: &mut [Part],
-    group: Group,
     direct: &[List<Claim>],
+    answers: &mut Answers,
 ) -> Result<List<Sides>, Stop<ScanFault>>
-    requires shaped { IsShaped kernel.now }
-    requires group { IsGroup kernel.now.nests group }
-    requires parts { length parts.old ≡ length kernel.now.nests }
-    requires direct { length direct.now + group.from ≡ group.to }
+    requires shaped { IsShaped opening.kernel.now }
+    requires group { IsGroup opening.kernel.now.nests opening.group }
+    requires parts { length parts.old ≡ length opening.kernel.now.nests }
+    requires direct { length direct.now + opening.group.from ≡ opening.group.to }
     ensures { IfOk result (λ all. length all ≡ length direct.now) }
 {
-    let mut all = List::new(alloc);
+    let mut all = List::new(opening.alloc);
     for i in 0..direct.len() {
-        let statement = group.from + i;
+        let statement = opening.group.from + i;
         let rows = direct[i].as_slice();
-        let sides = make_sides(
-            alloc,
-            kernel,
-            table,
-            &parts[statement],
-            statement,
-            group,
-            rows,
-        )?;
+        let sides = make_sides(opening, table, &parts[statement], statement, rows, answers)?;
         parts[statement].settle(rows, sides.used.as_slice());
         all.push(sides)?;
     }
     Ok(all)
 }
 
-/// The sides of each statement of a loop whose direct rows aren't alike: no term of one statement bounds another.
+/// The sides of each statement of a loop whose direct rows aren't alike: of these rows only those that hold safe reads alone
+/// are taken, so that no read is done that its own statement wouldn't do.
 fn unlike_sides(
-    alloc: Global,
-    kernel: &Kernel,
+    opening: Opening<'_>,
     table: &mut Table,
     parts: &[Part],
-    group: Group,
     direct: &[List<Claim>],
+    answers: &mut Answers,
 ) -> Result<List<Sides>, Stop<ScanFault>>
-    requires shaped { IsShaped kernel.now }
-    requires group { IsGroup kernel.now.nests group }
-    requires parts { length parts.now ≡ length kernel.now.nests }
-    requires direct { length direct.now + group.from ≡ group.to }
+    requires shaped { IsShaped opening.kernel.now }
+    requires group { IsGroup opening.kernel.now.nests opening.group }
+    requires parts { length parts.now ≡ length opening.kernel.now.nests }
+    requires direct { length direct.now + opening.group.from ≡ opening.group.to }
     ensures { IfOk result (λ all. length all ≡ length direct.now) }
 {
-    let mut all = List::new(alloc);
+    let mut all = List::new(opening.alloc);
     for i in 0..direct.len() {
-        let statement = group.from + i;
-        let rows = without_reads(alloc, direct[i].as_slice())?;
+        let statement = opening.group.from + i;
+        let rows = safe_claims(opening, table, direct[i].as_slice(), answers)?;
         let part = &parts[statement];
-        let sides = make_sides(
-            alloc,
-            kernel,
-            table,
-            part,
-            statement,
-            group,
-            rows.as_slice(),
-        )?;
-        all.push(sides)?;
+        all.push(make_sides(opening, table, part, statement, rows.as_slice(), answers)?)?;
     }
     Ok(all)
 }
@@ -356,24 +310,23 @@ fn judge_wide(group: Group, all: List<Sides>) -> Result<List<Sides>, Stop<ScanFa
 
 /// The sides of each statement of a loop.
 pub fn all_sides(
-    alloc: Global,
-    kernel: &Kernel,
+    opening: Opening<'_>,
     table: &mut Table,
     parts: &mut [Part],
-    group: Group,
 ) -> Result<List<Sides>, Stop<ScanFault>>
-    requires shaped { IsShaped kernel.now }
-    requires group { IsGroup kernel.now.nests group }
-    requires parts { length parts.old ≡ length kernel.now.nests }
-    ensures { IfOk result (λ all. length all + group.from ≡ group.to) }
+    requires shaped { IsShaped opening.kernel.now }
+    requires group { IsGroup opening.kernel.now.nests opening.group }
+    requires parts { length parts.old ≡ length opening.kernel.now.nests }
+    ensures { IfOk result (λ all. length all + opening.entry.group.from ≡ opening.entry.group.to) }
 {
-    let direct = all_direct(alloc, kernel, table, group)?;
+    let mut answers = Answers::new(opening.alloc);
+    let direct = all_direct(opening.alloc, opening.kernel, table, opening.group)?;
     let all = if are_alike(direct.as_slice()) {
-        alike_sides(alloc, kernel, table, parts, group, direct.as_slice())?
+        alike_sides(opening, table, parts, direct.as_slice(), &mut answers)?
     } else {
-        unlike_sides(alloc, kernel, table, parts, group, direct.as_slice())?
+        unlike_sides(opening, table, parts, direct.as_slice(), &mut answers)?
     };
-    judge_wide(group, all)
+    judge_wide(opening.group, all)
 }
 
 /// Whether all statements have the same bounds.
