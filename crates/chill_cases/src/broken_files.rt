@@ -62,7 +62,7 @@ const TRACES: [Wanted; 5] = [
     ((WORK, "", ""), [0, 0], 0, ""),
 ];
 
-// The call whose call of the files with this number fails, ends so and writes so much.
+// Where the call of the files with this number fails, nothing but this line is written.
 fn hold_broken(
     rt: &impl Abort,
     alloc: Global,
@@ -79,21 +79,20 @@ fn hold_broken(
 
 // Each call of the files fails in its turn, and then one that isn't made.
 fn hold(rt: &impl Abort, alloc: Global, wanted: &Wanted) -> Result<(), Fail> {
-    let (call, [first, second], status, line) = wanted;
-    let whole = ending(alloc, call, WHOLE)?;
-    for file in 0..*first {
-        hold_broken(rt, alloc, call, file, "chill: file 1: read fault\n")?;
+    let (call, [first, second], status, line) = *wanted;
+    let whole = ending(alloc, &call, WHOLE)?;
+    for file in 0..first {
+        hold_broken(rt, alloc, &call, file, "chill: file 1: read fault\n")?;
     }
-    let all = first.saturating_add(*second);
-    for file in *first..all {
-        hold_broken(rt, alloc, call, file, "chill: file 2: read fault\n")?;
+    let all = first.saturating_add(second);
+    for file in first..all {
+        hold_broken(rt, alloc, &call, file, "chill: file 2: read fault\n")?;
     }
-    let behind = ending(alloc, call, Breaks { file: all, ..WHOLE })?;
-    for ended in [&whole, &behind] {
-        assert_eq!(rt; ended.status, *status, "{line}");
-        assert!(rt; ended.out.bytes() == whole.out.bytes(), "{line}");
-        assert!(rt; ended.err.bytes() == line.as_bytes(), "{line}");
-    }
+    let behind = ending(alloc, &call, Breaks { file: all, ..WHOLE })?;
+    assert_eq!(rt; (whole.status, behind.status), (status, status), "{line}");
+    assert!(rt; behind.out.bytes() == whole.out.bytes(), "{line}");
+    assert!(rt; whole.err.bytes() == line.as_bytes(), "{line}");
+    assert!(rt; behind.err.bytes() == line.as_bytes(), "{line}");
     Ok(())
 }
 
