@@ -1,47 +1,106 @@
-// What commands on sparse matrices write.
-use crate::harness::Case;
-use crate::texts::{
-    BLOCKS, CLEARED_BODY, DIAGONALS, PRELUDE, PRODUCT, PRODUCT_HEAD, ROWS, SUM_BODY,
-};
-use crate::writing::hold_texts;
+// Texts that commands write, printed as they were. No recipe is applied to these: they have an inspector, or aren't affine.
+use crate::reading_back::stays;
 use std::test::Fail;
 
-/// A level for the columns, blocks and diagonals, and what is written.
-const DENSE_TEXTS: [Case; 3] = [
-    Case {
-        name: "a level for the columns",
-        command: "emit",
-        first: &["make_dense(0,2)"],
-        second: PRODUCT,
-        status: 0,
-        out: &[
-            PRELUDE,
-            PRODUCT_HEAD,
-            "{
+/// The texts, with an empty line between two: a tiled loop inside a statement that is less deep, fused loops, unrolled turns,
+/// copies, blocks, diagonals, rows of one width, kept columns, and blocks behind another loop.
+const WRITTEN: &str = "#pragma sparse csr(index, col, a, n, m, nnz)
+void spmv(int64_t n, int64_t m, int64_t nnz, int64_t index[n+1], int64_t col[nnz], uint64_t a[nnz], uint64_t x[m], uint64_t y[n])
+{
   for (int64_t t1 = 0; t1 < n; t1++) {
-    for (int64_t t2 = 0; t2 < m; t2++) {
+    for (int64_t t2 = ceild(t1-1, 2); t2 < floord(t1, 2)+1; t2++) {
+      y[t1] = 0;
       for (int64_t t3 = index[t1]; t3 < index[t1+1]; t3++) {
-        if (t2-col[t3] == 0) {
-          y[t1] += a[t3] * x[t2];
+        y[t1] += a[t3] * x[col[t3]];
+      }
+    }
+  }
+}
+
+void f(int64_t n, int64_t m, uint64_t b[n], uint64_t d[m])
+{
+  for (int64_t t1 = min(0, 0); t1 < max(n, m); t1++) {
+    if (t1 >= 0 && -t1+n-1 >= 0) {
+      b[t1] = 1;
+    }
+    if (t1 >= 0 && -t1+m-1 >= 0) {
+      d[t1] = 2;
+    }
+  }
+}
+
+void f(int64_t n, uint64_t b[10], uint64_t c[10])
+{
+  for (int64_t t1 = 0; t1 < floord(6, 4)+1; t1++) {
+    b[4*t1] = c[4*t1];
+    b[4*t1+1] = c[4*t1+1];
+    b[4*t1+2] = c[4*t1+2];
+    b[4*t1+3] = c[4*t1+3];
+  }
+  for (int64_t t1 = max(0, ceild(7, 4)); t1 < floord(9, 4)+1; t1++) {
+    for (int64_t t2 = 0; t2 < min(4, -4*t1+10); t2++) {
+      b[4*t1+t2] = c[4*t1+t2];
+    }
+  }
+}
+
+void f(int64_t n, uint64_t c[8], uint64_t d[8])
+{
+#pragma sparse inspector
+  DATA1(e);
+  GROW(e, 8);
+#pragma sparse executor
+  for (int64_t t1 = 0; t1 < 8; t1++) {
+    e[t1] = c[t1];
+  }
+  for (int64_t t1 = 0; t1 < 8; t1++) {
+    d[t1] = e[t1];
+  }
+}
+
+void f(int64_t n, uint64_t d[n], uint64_t x[1])
+{
+#pragma sparse inspector
+  DATA1(e);
+  GROW(e, 1);
+#pragma sparse executor
+  for (int64_t t1 = ceild(-3, 4); t1 < floord(n-1, 4)+1; t1++) {
+    for (int64_t t2 = 0; t2 < 1; t2++) {
+      if (4*t1+3 >= 0 && -4*t1+n-1 >= 0) {
+        e[t2] = x[t2];
+      }
+    }
+    for (int64_t t2 = max(0, 4*t1); t2 < min(n, 4*t1+4); t2++) {
+      d[t2] = e[0];
+    }
+  }
+}
+
+void f(int64_t n, uint64_t d[n][n][n], uint64_t x[4])
+{
+#pragma sparse inspector
+  DATA1(c);
+  GROW(c, 1);
+#pragma sparse executor
+  for (int64_t t1 = -n+1; t1 < 1; t1++) {
+    for (int64_t t2 = t1; t2 < min(t1+1, t1+4); t2++) {
+      if (-t1 >= 0 && -t1 >= 0 && t1+n-1 >= 0) {
+        c[-t1+t2] = x[-t1+t2];
+      }
+    }
+    for (int64_t t2 = 0; t2 < n; t2++) {
+      for (int64_t t3 = -t1; t3 < min(-t1+n, n); t3++) {
+        if (-t1 >= 0) {
+          d[t1+t3][t3][t2] = c[0];
         }
       }
     }
   }
 }
-",
-        ],
-        err: "",
-    },
-    Case {
-        name: "blocks",
-        command: "emit",
-        first: &[BLOCKS],
-        second: PRODUCT,
-        status: 0,
-        out: &[
-            PRELUDE,
-            PRODUCT_HEAD,
-            "{
+
+#pragma sparse csr(index, col, a, n, m, nnz)
+void spmv(int64_t n, int64_t m, int64_t nnz, int64_t index[n+1], int64_t col[nnz], uint64_t a[nnz], uint64_t x[m], uint64_t y[n])
+{
 #pragma sparse inspector
   INDEX1(b_ptr);
   INDEX1(b_val);
@@ -75,20 +134,10 @@ const DENSE_TEXTS: [Case; 3] = [
     }
   }
 }
-",
-        ],
-        err: "",
-    },
-    Case {
-        name: "diagonals",
-        command: "emit",
-        first: &[DIAGONALS],
-        second: PRODUCT,
-        status: 0,
-        out: &[
-            PRELUDE,
-            PRODUCT_HEAD,
-            "{
+
+#pragma sparse csr(index, col, a, n, m, nnz)
+void spmv(int64_t n, int64_t m, int64_t nnz, int64_t index[n+1], int64_t col[nnz], uint64_t a[nnz], uint64_t x[m], uint64_t y[n])
+{
 #pragma sparse inspector
   INDEX1(b_ptr);
   INDEX1(b_val);
@@ -118,24 +167,10 @@ const DENSE_TEXTS: [Case; 3] = [
     }
   }
 }
-",
-        ],
-        err: "",
-    },
-];
 
-/// Rows of one width, kept columns, and blocks behind another loop, and what is written.
-const KEPT_TEXTS: [Case; 3] = [
-    Case {
-        name: "rows of one width",
-        command: "emit",
-        first: &[ROWS],
-        second: PRODUCT,
-        status: 0,
-        out: &[
-            PRELUDE,
-            PRODUCT_HEAD,
-            "{
+#pragma sparse csr(index, col, a, n, m, nnz)
+void spmv(int64_t n, int64_t m, int64_t nnz, int64_t index[n+1], int64_t col[nnz], uint64_t a[nnz], uint64_t x[m], uint64_t y[n])
+{
 #pragma sparse inspector
   INDEX1(b_wid);
   GROW(b_wid, 1);
@@ -161,20 +196,10 @@ const KEPT_TEXTS: [Case; 3] = [
     }
   }
 }
-",
-        ],
-        err: "",
-    },
-    Case {
-        name: "compacted columns of sums",
-        command: "emit",
-        first: &["make_dense(0,2)\ncompact(0,2,b)\n"],
-        second: &[PRODUCT_HEAD, SUM_BODY],
-        status: 0,
-        out: &[
-            PRELUDE,
-            PRODUCT_HEAD,
-            "{
+
+#pragma sparse csr(index, col, a, n, m, nnz)
+void spmv(int64_t n, int64_t m, int64_t nnz, int64_t index[n+1], int64_t col[nnz], uint64_t a[nnz], uint64_t x[m], uint64_t y[n])
+{
 #pragma sparse inspector
   INDEX1(b_ptr);
   INDEX1(b_val);
@@ -205,22 +230,10 @@ const KEPT_TEXTS: [Case; 3] = [
     }
   }
 }
-",
-        ],
-        err: "",
-    },
-    Case {
-        name: "blocks behind a loop of their own",
-        command: "emit",
-        first: &[
-            "distribute(1,1)\nmake_dense(1,2)\ntile(1,1,2,1)\ntile(1,3,2,2)\ncompact_and_pad(1,2,block,b)\n",
-        ],
-        second: &[PRODUCT_HEAD, CLEARED_BODY],
-        status: 0,
-        out: &[
-            PRELUDE,
-            PRODUCT_HEAD,
-            "{
+
+#pragma sparse csr(index, col, a, n, m, nnz)
+void spmv(int64_t n, int64_t m, int64_t nnz, int64_t index[n+1], int64_t col[nnz], uint64_t a[nnz], uint64_t x[m], uint64_t y[n])
+{
 #pragma sparse inspector
   INDEX1(b_ptr);
   INDEX1(b_val);
@@ -256,19 +269,14 @@ const KEPT_TEXTS: [Case; 3] = [
       }
     }
   }
-}
-",
-        ],
-        err: "",
-    },
-];
+}";
 
 #[test]
-fn dense_columns(rt: HostRuntime) -> Result<(), Fail> {
-    hold_texts(&rt, rt.alloc(), &DENSE_TEXTS)
-}
-
-#[test]
-fn kept_columns(rt: HostRuntime) -> Result<(), Fail> {
-    hold_texts(&rt, rt.alloc(), &KEPT_TEXTS)
+fn written_texts(rt: HostRuntime) -> Result<(), Fail> {
+    let alloc = rt.alloc();
+    for text in WRITTEN.split("\n\n") {
+        let text = format!(in alloc; "{text}\n")?;
+        stays(&rt, alloc, text.as_bytes())?;
+    }
+    Ok(())
 }
