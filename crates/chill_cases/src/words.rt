@@ -42,7 +42,7 @@ const WORDS: [&[&str]; 34] = [
 ];
 
 const USAGE: &str =
-    "chill: usage: chill emit RECIPE SOURCE, run PROGRAM DATA, trace PROGRAM DATA, work SEED SIZE\n";
+    "chill: usage: chill emit RECIPE SOURCE, run PROGRAM DATA, trace PROGRAM DATA, work SEED SIZE, where TEXT TOKEN\n";
 
 #[test]
 fn words_of_no_command(rt: HostRuntime) -> Result<(), Fail> {
