@@ -1,5 +1,5 @@
 -- Why `where` gives each of its answers, and what it writes.
-use Rattle.std.specs.Prelude.{◌≡◌, ◌⊎◌, ℕ, List, Option, Some}
+use Rattle.std.specs.Prelude.{◌≡◌, ℕ, List, Some}
 use Rattle.chill_base.specs.Outside.{FilesState, SinkState, Shelf, BothTold, Wrote, IsProperFront}
 use Rattle.chill_base.specs.declared.faults.Stop.{Stop}
 use Rattle.chill_base.specs.declared.faults.Stop.TheVariants.{Refused as StopRefused, NoMemory as StopNoMemory}
