@@ -7,8 +7,8 @@ use Rattle.chill_base.specs.Outside.{FilesState, SinkState, Shelf, BothTold}
 use Rattle.outcomes.specs.declared.outcome.Outcome.{Outcome}
 use Rattle.outcomes.specs.declared.outcome.Outcome.TheVariants.{Done, Refused, Usage, ReadFault, WriteFault, NoMemory}
 use Rattle.outcomes.specs.declared.outcome.Refusal.{Refusal}
-use Rattle.outcomes.specs.declared.outcome.Refusal.TheVariants.{FileLong, Recipe, Program as ProgramRefused, Source, Command as CommandRefused, Scan, Values, Run}
-use Rattle.command_words.specs.Commands.{Command, emit, run, trace, work}
+use Rattle.outcomes.specs.declared.outcome.Refusal.TheVariants.{FileLong, Recipe, Program as ProgramRefused, Source, Command as CommandRefused, Scan, Values, Run, Where}
+use Rattle.command_words.specs.Commands.{Command, emit, run, trace, work, locate}
 use Rattle.recipe_read.specs.declared.command.Command.{Command as Step}
 use Rattle.recipe_read.specs.Recipe as recipes
 use Rattle.c_tree.specs.declared.program.Program.{Program}
@@ -75,6 +75,7 @@ headline (Some (emit recipe source)) files files' out out' NoMemory a = tt
 headline (Some (run program values)) files files' out out' result a = tt
 headline (Some (trace program values)) files files' out out' result a = tt
 headline (Some (work seed size)) files files' out out' result a = tt
+headline (Some (locate text token)) files files' out out' result a = tt
 
 -- ---- what isn't refused
 not_long : (s : Shelf) (name bytes : List ℕ) → Has s name bytes → IsLong s name → ⊥
@@ -95,6 +96,7 @@ not_too_long s recipe source rules bytes a b (CommandRefused number fault) x = x
 not_too_long s recipe source rules bytes a b (Scan fault) x = x
 not_too_long s recipe source rules bytes a b (Values fault) x = x
 not_too_long s recipe source rules bytes a b (Run fault) x = x
+not_too_long s recipe source rules bytes a b (Where few) x = x
 
 not_refused : (first rules : List ℕ) (r : Refusal) → first ≡ rules → recipes.recipe rules ≡ Ok [] → RecipeCause (recipes.recipe first) r → ⊥
 not_refused first rules r f e c = subst (λ x. RecipeCause x r) (ap recipes.recipe f ∙ e) c
@@ -146,3 +148,4 @@ completes (Some (emit recipe source)) files files' out out' NoMemory a = told_fr
 completes (Some (run program values)) files files' out out' result a = tt
 completes (Some (trace program values)) files files' out out' result a = tt
 completes (Some (work seed size)) files files' out out' result a = tt
+completes (Some (locate text token)) files files' out out' result a = tt

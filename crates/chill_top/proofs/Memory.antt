@@ -2,7 +2,7 @@
 use Rattle.std.proofs.Common.{Option, None, Some}
 use Rattle.chill_base.specs.Outside.{FilesState, SinkState, Shelf, BothTold}
 use Rattle.outcomes.specs.declared.outcome.Outcome.TheVariants.{NoMemory}
-use Rattle.command_words.specs.Commands.{Command, emit, run, trace, work}
+use Rattle.command_words.specs.Commands.{Command, emit, run, trace, work, locate}
 use Rattle.chill_top.specs.Answers.{Answers}
 
 free : (told : Option Shelf) → BothTold told told (λ before after. Unit {0})
@@ -15,3 +15,4 @@ no_memory (Some (emit recipe source)) files out = free files.told
 no_memory (Some (run program values)) files out = free files.told
 no_memory (Some (trace program values)) files out = free files.told
 no_memory (Some (work seed size)) files out = tt
+no_memory (Some (locate text token)) files out = free files.told

@@ -7,7 +7,7 @@ use Rattle.command_words.specs.Numbers.{number, number_from, is_no_number}
 use Rattle.command_words.specs.Words.{are_words}
 use Rattle.command_words.specs.declared.request.Request.{Request}
 use Rattle.command_words.specs.declared.request.Request.TheVariants as is
-use Rattle.command_words.specs.Commands.{Text, Command, emit, run, trace, work, sized, named, command_in, command_of, request}
+use Rattle.command_words.specs.Commands.{Text, Command, emit, run, trace, work, locate, sized, counted, named, command_in, command_of, request}
 
 pub record IsSized (seed size : ℕ) : Type 0 where
   pub small : seed ≤ 2147483647
@@ -53,17 +53,28 @@ sized_of (Some s) (Some z) seed size e = by (nat_le 1 z) refl e
     by true is e = (let same = same_work s z seed size e in let le : 1 ≤ z = grind (arith, is) in let z_is = same.1 in (ap Some same.0, (ap Some same.1, omega (arith, le, z_is))))
     by false is e = absurd (no_command e)
 
-choice : (a b : Text) (s : Option Command) (seed size : ℕ) (t1 t2 t3 t4 : Bool)
-    → (if t1 then asked (emit a b) else if t2 then asked (run a b) else if t3 then asked (trace a b) else if t4 then s else None) ≡ asked (work seed size) → s ≡ asked (work seed size)
-choice a b s seed size true t2 t3 t4 e = absurd cc
-choice a b s seed size false true t3 t4 e = absurd cc
-choice a b s seed size false false true t4 e = absurd cc
-choice a b s seed size false false false true e = e
-choice a b s seed size false false false false e = absurd (no_command e)
+-- what names a token isn't `work`
+not_work : (text : Text) (token : Option ℕ) (seed size : ℕ) → counted text token ≡ asked (work seed size) → ⊥
+not_work text None seed size e = no_command e
+not_work text (Some token) seed size e = by (nat_le 1 token) e
+  where
+    by : (t : Bool) → (if t then asked (locate text token) else None) ≡ asked (work seed size) → ⊥
+    by true e = cc
+    by false e = no_command e
+
+choice : (a b : Text) (s : Option Command) (token : Option ℕ) (seed size : ℕ) (t1 t2 t3 t4 t5 : Bool)
+    → (if t1 then asked (emit a b) else if t2 then asked (run a b) else if t3 then asked (trace a b) else if t4 then s else if t5 then counted a token else None) ≡ asked (work seed size)
+    → s ≡ asked (work seed size)
+choice a b s token seed size true t2 t3 t4 t5 e = absurd cc
+choice a b s token seed size false true t3 t4 t5 e = absurd cc
+choice a b s token seed size false false true t4 t5 e = absurd cc
+choice a b s token seed size false false false true t5 e = e
+choice a b s token seed size false false false false true e = absurd (not_work a token seed size e)
+choice a b s token seed size false false false false false e = absurd (no_command e)
 
 named_sized : (v a b : Text) (seed size : ℕ) → named v a b ≡ asked (work seed size) → IsSized seed size
 named_sized v a b seed size e =
-    let is = choice a b (sized (number 2147483647 a) (number 65536 b)) seed size (bytes_eq v (codes "emit")) (bytes_eq v (codes "run")) (bytes_eq v (codes "trace")) (bytes_eq v (codes "work")) e in
+    let is = choice a b (sized (number 2147483647 a) (number 65536 b)) (number 4294967295 b) seed size (bytes_eq v (codes "emit")) (bytes_eq v (codes "run")) (bytes_eq v (codes "trace")) (bytes_eq v (codes "work")) (bytes_eq v (codes "where")) e in
     let numbers = sized_of (number 2147483647 a) (number 65536 b) seed size is in
     record { small = number_most 2147483647 a seed numbers.0; from = numbers.1.1; to = number_most 65536 b size numbers.1.0 }
 

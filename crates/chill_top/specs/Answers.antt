@@ -3,9 +3,10 @@ use Rattle.std.specs.Prelude.{ℕ, List, Option, None, Some}
 use Rattle.chill_base.specs.Outside.{FilesState, SinkState, BothTold, Wrote, IsProperFront}
 use Rattle.outcomes.specs.declared.outcome.Outcome.{Outcome}
 use Rattle.outcomes.specs.declared.outcome.Outcome.TheVariants.{Done, Refused, Usage, ReadFault, WriteFault, NoMemory}
-use Rattle.command_words.specs.Commands.{Command, emit, run, trace, work}
+use Rattle.command_words.specs.Commands.{Command, emit, run, trace, work, locate}
 use Rattle.run_jobs.specs.Jobs.{Cause}
 use Rattle.run_jobs.specs.Running.{running, TraceCause}
+use Rattle.run_jobs.specs.Locating.{PlaceCause}
 use Rattle.measured_run.specs.Work.{IsSummary, WorkCause}
 use Rattle.measured_run.specs.declared.making.TheConstants.{RECIPE, SOURCE}
 use Rattle.chill_top.specs.Emitting.{emitting}
@@ -35,3 +36,5 @@ Answers (Some (run program values)) files files' out out' result =
 Answers (Some (trace program values)) files files' out out' result =
     BothTold files.told files'.told (λ before after. TraceCause program values before after result)
 Answers (Some (work seed size)) files files' out out' result = WorkAnswer size out out' result
+Answers (Some (locate text token)) files files' out out' result =
+    BothTold files.told files'.told (λ before after. PlaceCause text token before after out out' result)

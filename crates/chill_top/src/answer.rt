@@ -13,7 +13,7 @@ use crate::working::run_work;
 use chill_base::{Files, Sink};
 use command_words::{Request, WordsFault, request_of};
 use outcomes::{Outcome, say};
-use run_jobs::{run_run, run_trace};
+use run_jobs::{run_run, run_trace, run_where};
 use std::alloc::Global;
 
 /// Does what the words say, and writes a line on `err` for each outcome other than `Done`.
@@ -56,6 +56,7 @@ fn answer<F: Files, O: Sink>(alloc: Global, words: &[String], files: &mut F, out
         Ok(Request::Run { program, data }) => run_run(alloc, program, data, files, out),
         Ok(Request::Trace { program, data }) => run_trace(alloc, program, data, files, out),
         Ok(Request::Work { seed, size }) => run_work(alloc, seed, size, out),
+        Ok(Request::Where { text, token }) => run_where(alloc, text, token, files, out),
         Err(WordsFault::Usage) => Outcome::Usage,
         Err(WordsFault::NoMemory) => Outcome::NoMemory,
     }

@@ -30,10 +30,11 @@ use Rattle.c_run.specs.declared.fault.Section.{Section}
 use Rattle.c_run.specs.declared.fault.Section.TheVariants as section
 use Rattle.c_run.specs.declared.fault.RunFault.{RunFault}
 use Rattle.c_run.specs.declared.fault.RunFault.TheVariants as run
+use Rattle.token_places.specs.declared.marks.TooFew.{TooFew}
 use Rattle.outcomes.specs.declared.outcome.Outcome.{Outcome}
 use Rattle.outcomes.specs.declared.outcome.Outcome.TheVariants.{Done, Refused, Usage, ReadFault, WriteFault, NoMemory}
 use Rattle.outcomes.specs.declared.outcome.Refusal.{Refusal}
-use Rattle.outcomes.specs.declared.outcome.Refusal.TheVariants.{FileLong, Recipe, Program, Source, Command, Scan, Values, Run}
+use Rattle.outcomes.specs.declared.outcome.Refusal.TheVariants.{FileLong, Recipe, Program, Source, Command, Scan, Values, Run, Where}
 use Rattle.outcomes.specs.Words.{joined, place_text}
 
 -- ---- recipes and programs
@@ -136,6 +137,10 @@ abbrev pub run_line : RunFault → List ℕ
 run_line (run.Outside section array place) = joined (codes "chill: " ∷ section_words section ∷ place_text place ∷ codes ": outside " ∷ array ∷ codes "\n" ∷ [])
 run_line (run.Range section place) = joined (codes "chill: " ∷ section_words section ∷ place_text place ∷ codes ": range\n" ∷ [])
 
+-- ---- places of tokens
+abbrev pub tokens_line : TooFew → List ℕ
+tokens_line few = joined (codes "chill: where: " ∷ decimal few.tokens ∷ codes " tokens\n" ∷ [])
+
 -- ---- outcomes
 abbrev pub refusal_line : Refusal → List ℕ
 refusal_line (FileLong file) = joined (codes "chill: file " ∷ decimal file ∷ codes ": longer than 67108864 bytes\n" ∷ [])
@@ -146,12 +151,13 @@ refusal_line (Command number fault) = command_line number fault
 refusal_line (Scan fault) = scan_line fault
 refusal_line (Values fault) = values_line fault
 refusal_line (Run fault) = run_line fault
+refusal_line (Where few) = tokens_line few
 
 -- one line for each outcome other than `Done`
 abbrev pub line_of : Outcome → List ℕ
 line_of Done = []
 line_of (Refused refusal) = refusal_line refusal
-line_of Usage = joined (codes "chill: usage: chill emit RECIPE SOURCE, run PROGRAM DATA, " ∷ codes "trace PROGRAM DATA, work SEED SIZE\n" ∷ [])
+line_of Usage = joined (codes "chill: usage: chill emit RECIPE SOURCE, run PROGRAM DATA, " ∷ codes "trace PROGRAM DATA, work SEED SIZE, where TEXT TOKEN\n" ∷ [])
 line_of (ReadFault file) = joined (codes "chill: file " ∷ decimal file ∷ codes ": read fault\n" ∷ [])
 line_of WriteFault = codes "chill: write fault\n"
 line_of NoMemory = codes "chill: no memory\n"

@@ -7,7 +7,7 @@ ghost use Rattle.outcomes.specs.Lines.{line_of, refusal_line};
 
 use crate::say_command::{say_command, say_scan};
 use crate::say_program::{say_program, say_recipe, say_source};
-use crate::say_run::{say_run, say_values};
+use crate::say_run::{say_run, say_tokens, say_values};
 use crate::words::Word::{Number, Text};
 use crate::words::say_words;
 use crate::{Outcome, Refusal};
@@ -24,7 +24,7 @@ pub fn say<E: Sink>(err: &mut E, outcome: &Outcome)
             err,
             &[
                 Text("chill: usage: chill emit RECIPE SOURCE, run PROGRAM DATA, "),
-                Text("trace PROGRAM DATA, work SEED SIZE\n"),
+                Text("trace PROGRAM DATA, work SEED SIZE, where TEXT TOKEN\n"),
             ],
         ),
         Outcome::ReadFault { file } => say_file(err, *file, ": read fault\n"),
@@ -54,5 +54,6 @@ fn say_refusal<E: Sink>(err: &mut E, refusal: &Refusal)
         Refusal::Scan(fault) => say_scan(err, *fault),
         Refusal::Values(fault) => say_values(err, fault),
         Refusal::Run(fault) => say_run(err, fault),
+        Refusal::Where(few) => say_tokens(err, *few),
     }
 }

@@ -9,6 +9,7 @@ use nest_tree::CommandFault;
 use recipe_read::RecipeFault;
 use scan_forms::ScanFault;
 use source_limits::SourceFault;
+use token_places::TooFew;
 
 /// How a call ended.
 #[derive(PartialEq, Eq, Drop)]
@@ -42,6 +43,8 @@ pub enum Refusal {
     Values(ValuesFault),
     /// The run has a fault.
     Run(RunFault),
+    /// The text has no token of the number that was asked for.
+    Where(TooFew),
 }
 
 /// The exit status of an outcome.

@@ -1,13 +1,14 @@
-// The lines of data texts and runs that are refused.
+// The lines of data texts, runs and numbers of tokens that are refused.
 ghost use Rattle.std.specs.Prelude.{◌≡◌};
 ghost use Rattle.chill_base.specs.Outside.{TookFront};
-ghost use Rattle.outcomes.specs.Lines.{values_line, csr_words, run_line, section_words};
+ghost use Rattle.outcomes.specs.Lines.{values_line, csr_words, run_line, section_words, tokens_line};
 
 use crate::words::Word::{Name as Named, Number, Place as Placed, Signed, Text, Wide};
 use crate::words::say_words;
 use c_run::{RunFault, Section};
 use chill_base::Sink;
 use csr_data::{CsrWhy, ValuesFault};
+use token_places::TooFew;
 
 pub fn say_values<E: Sink>(err: &mut E, fault: &ValuesFault)
     ensures { TookFront (E.state err.old) (values_line fault.now) (E.state err.new) }
@@ -114,4 +115,17 @@ fn section_words(section: Section) -> &'static str
         Section::Inspector => "inspector ",
         Section::Executor => "executor ",
     }
+}
+
+pub fn say_tokens<E: Sink>(err: &mut E, few: TooFew)
+    ensures { TookFront (E.state err.old) (tokens_line few) (E.state err.new) }
+{
+    say_words(
+        err,
+        &[
+            Text("chill: where: "),
+            Number(few.tokens as u128),
+            Text(" tokens\n"),
+        ],
+    );
 }

@@ -5,7 +5,7 @@ use Rattle.chill_base.specs.declared.faults.Stop.{Stop}
 use Rattle.chill_base.specs.declared.faults.Stop.TheVariants.{Refused as StopRefused, NoMemory as StopNoMemory}
 use Rattle.chill_base.specs.declared.whole.Unread.{Unread}
 use Rattle.chill_base.specs.declared.whole.Unread.TheVariants.{Fault, Long, NoMemory as Short}
-use Rattle.command_words.specs.Commands.{Command, emit, run, trace, work}
+use Rattle.command_words.specs.Commands.{Command, emit, run, trace, work, locate}
 use Rattle.outcomes.specs.declared.outcome.Outcome.{Outcome}
 use Rattle.outcomes.specs.declared.outcome.Outcome.TheVariants.{Done, Refused, ReadFault, WriteFault, NoMemory}
 use Rattle.outcomes.specs.declared.outcome.Refusal.{Refusal}
@@ -34,6 +34,7 @@ IsQuietFor (Some (trace program values)) result = IsQuietTrace result
 IsQuietFor (Some (emit recipe source)) result = IsQuiet result
 IsQuietFor (Some (run program values)) result = IsQuiet result
 IsQuietFor (Some (work seed size)) result = IsQuiet result
+IsQuietFor (Some (locate text token)) result = IsQuiet result
 IsQuietFor None result = IsQuiet result
 
 abbrev pub IsReadFault : Outcome → Type 0
