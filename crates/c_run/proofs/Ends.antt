@@ -1,7 +1,7 @@
 -- How the runs of sections end.
-use Rattle.std.proofs.Common.{◌≡◌, refl, ap, ◌∙◌, subst, true, false, inl, inr, List, [], ◌∷◌, map, length, Err, arith}
+use Rattle.std.proofs.Common.{◌≡◌, refl, ap, ◌∙◌, subst, true, false, inl, inr, ℕ, List, [], ◌∷◌, map, length, Ok, Err, arith}
 use Rattle.std.specs.List.{list_all}
-use Rattle.chill_base.specs.Outside.{Rose}
+use Rattle.chill_base.specs.Outside.{SinkState, Rose, Wrote}
 use Rattle.c_tree.specs.declared.program.Program.{Program}
 use Rattle.c_tree.specs.declared.statement.Stmt.{Stmt}
 use Rattle.c_meaning.specs.Memory.{Memory, Env}
@@ -13,16 +13,17 @@ use Rattle.c_meaning.specs.Run.{Run, run, part, sequence}
 use Rattle.c_meaning.specs.Executors.{deeds}
 use Rattle.c_meaning.specs.Programs.{is_executor}
 use Rattle.c_meaning.proofs.Executors.{executor_performs}
+use Rattle.c_trace.specs.Steps.{lines}
 use Rattle.c_walk.specs.State.{State, memory_in, with_memory}
 use Rattle.c_walk.specs.Ready.{are_ready, has_array}
 use Rattle.c_walk.specs.declared.halt.Halt.{Halt}
-use Rattle.c_walk.specs.declared.halt.Halt.TheVariants.{Fault, NoMemory}
-use Rattle.c_walk.specs.Does.{has_growth, Ends, Does}
+use Rattle.c_walk.specs.declared.halt.Halt.TheVariants.{Fault, NoMemory, WriteFault}
+use Rattle.c_walk.specs.Does.{has_growth, Ends, Does, Takes, Told, told_of}
 use Rattle.c_walk.proofs.Pieces.{Ended}
 use Rattle.c_run.specs.declared.fault.Section.{Section}
 use Rattle.c_run.specs.declared.fault.RunFault.{RunFault}
 use Rattle.c_run.specs.Faults.{fault_at}
-use Rattle.c_run.specs.Sections.{Refuses}
+use Rattle.c_run.specs.Sections.{Refuses, IsCut}
 use Rattle.c_run.specs.Ready.{CanExecute}
 
 assignments_grow_nothing : (is : List (Item Step)) → has_growth (deeds is) ≡ false
@@ -60,6 +61,22 @@ pub refuses_at : (section : Section) (F : Run) (s s' : State) (h : Halt) (p : Pl
 refuses_at section F s s' h p f g e k d =
     let ends : Ends {A = Unit {0}} (Err (Fault p f)) (F (memory_in s)) (memory_in s') = subst (λ h. Ends {A = Unit {0}} (Err h) (F (memory_in s)) (memory_in s')) e d.ends in
     (record { place = p; fault = f; trouble = ends.0; is = k }, ends.1)
+
+-- what one who was told of a section took
+module _ (line : Item Step → List ℕ) (body : List Stmt) (c : Env) (at : Place) (s : State) (h h' : SinkState) (is : at ≡ []) where
+  pub took_all : (u : Unit {0}) → Told (told_of line (sequence (map part body) c at 0) s) h h' (Ok u) → Wrote h (lines line ((run body c (memory_in s)).items)) h'
+  took_all u t = subst (λ at. Wrote h (told_of line (sequence (map part body) c at 0) s) h') is t.takes
+
+  pub took_before : (x : Halt) (p : Place) (f : EvalFault) → x ≡ Fault p f → Told {A = Unit {0}} (told_of line (sequence (map part body) c at 0) s) h h' (Err x) → Wrote h (lines line ((run body c (memory_in s)).items)) h'
+  took_before x p f e t =
+      let takes = subst (λ (x : Halt). Takes {A = Unit {0}} (Err x) (told_of line (sequence (map part body) c at 0) s) h h') e t.takes in
+      subst (λ at. Wrote h (told_of line (sequence (map part body) c at 0) s) h') is takes
+
+  pub took_front : (x : Halt) → x ≡ WriteFault → Told {A = Unit {0}} (told_of line (sequence (map part body) c at 0) s) h h' (Err x) → IsCut (lines line ((run body c (memory_in s)).items)) h h'
+  took_front x e t =
+      let takes = subst (λ (x : Halt). Takes {A = Unit {0}} (Err x) (told_of line (sequence (map part body) c at 0) s) h h') e t.takes in
+      let cut : IsCut (told_of line (sequence (map part body) c at 0) s) h h' = record { rose = t.cause (ap Err e); front = takes.0; is_front = takes.1; wrote = takes.2 } in
+      subst (λ at. IsCut (told_of line (sequence (map part body) c at 0) s) h h') is cut
 
 -- an executor doesn't end for want of memory
 pub has_memory : (body : List Stmt) (c : Env) (s s' : State) (h : Halt) → list_all is_executor body ≡ true → h ≡ NoMemory → Does {A = Unit {0}} (run body c) s s' (Err h) → ⊥

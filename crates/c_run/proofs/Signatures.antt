@@ -1,6 +1,6 @@
 -- The arrays of a signature stay there.
-use Rattle.std.proofs.Common.{◌≡◌, ℕ, zero, suc, ◌+◌, ◌<◌, ◌≤◌, Bool, true, false, ◌||◌, nat_lt, List, [], ◌∷◌, length, slice_get, get_or, Option, Some, None, if◌then◌else◌, refl, sym, ap, ◌∙◌, arith}
-use Rattle.std.specs.Prelude.{is_some, IsTrue}
+use Rattle.std.proofs.Common.{◌≡◌, ℕ, zero, suc, ◌+◌, ◌<◌, Bool, true, false, ◌||◌, nat_lt, List, [], ◌∷◌, length, slice_get, get_or, Option, Some, None, if◌then◌else◌, refl, sym, ap, ◌∙◌, arith}
+use Rattle.std.specs.Prelude.{is_some}
 use Rattle.std.specs.Option.{option_map}
 use Rattle.c_tree.specs.declared.program.Array.{Array}
 use Rattle.c_tree.specs.declared.program.Kind.{Kind}
@@ -10,10 +10,9 @@ use Rattle.c_tree.specs.declared.statement.Stmt.{Stmt}
 use Rattle.c_meaning.specs.Names.{Name, same_name}
 use Rattle.c_meaning.specs.Scope.{Scope}
 use Rattle.c_walk.specs.Ready.{has_array}
-use Rattle.c_walk.specs.State.{State}
 use Rattle.csr_data.specs.declared.values.Table.{Table}
-use Rattle.c_run.specs.Arrays.{Shape, shape_of, table_of, shape_in}
-use Rattle.c_run.specs.Ready.{Declaration, declaration_of, declared_in, scope_behind, index_dimensions, data_dimensions, HasArrays, CanInspect, CanExecute}
+use Rattle.c_run.specs.Arrays.{shape_of, table_of, shape_in}
+use Rattle.c_run.specs.Ready.{Declaration, declaration_of, declared_in, scope_behind, index_dimensions, data_dimensions, HasArrays}
 use Rattle.c_run.specs.Store.{dimensions_of}
 
 some_more : (n : ℕ) → nat_lt 0 (n + 1) ≡ true

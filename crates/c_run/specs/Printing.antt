@@ -1,5 +1,5 @@
 -- The arrays of a signature as a text.
-use Rattle.std.specs.Prelude.{ℕ, List, [], ◌++◌, Option, Some, None}
+use Rattle.std.specs.Prelude.{ℕ, List, [], Option, Some, None}
 use Rattle.std.specs.List.{flat_map}
 use Rattle.c_tree.specs.declared.program.Array.{Array}
 use Rattle.csr_data.specs.declared.values.Table.{Table}

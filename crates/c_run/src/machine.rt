@@ -4,10 +4,10 @@ ghost use Rattle.chill_base.specs.Outside.{Rose};
 ghost use Rattle.csr_data.specs.Parameters.{AreSmall};
 ghost use Rattle.c_walk.specs.State.{memory_in};
 ghost use Rattle.csr_data.specs.Values.{array_of};
-ghost use Rattle.c_run.specs.Ready.{CanInspect, CanExecute, HasArrays};
+ghost use Rattle.c_run.specs.Ready.{CanInspect, CanExecute, HasArrays, scope_behind};
 ghost use Rattle.c_run.specs.Store.{state_of_store, scope_of_store, tables_of, prepared};
 ghost use Rattle.c_run.specs.Printing.{arrays_text};
-ghost use Rattle.c_run.specs.Sections.{Ended, InspectorEnds, TraceEnds, inspector_run, executor_run};
+ghost use Rattle.c_run.specs.Sections.{Ended, InspectorEnds, TraceEnds, inspector_run, executor_run, executor_lines};
 ghost use Rattle.c_run.specs.Stages.{IsInspected};
 ghost use Rattle.c_run.specs.declared.machine.Stage.TheVariants.{Prepared, Inspected};
 ghost use Rattle.c_run.specs.declared.fault.Section.TheVariants.{Executor};
@@ -87,6 +87,7 @@ impl<'a> Machine<'a> {
         ensures stays { (fault : RunFault) → self.old.stage ≡ Stage.Refused fault → result ≡ Err (Stop.Refused fault) }
         ensures program { self.new.program ≡ self.old.program }
         ensures values { (state_of_machine self.new).sight.value ≡ (state_of_machine self.old).sight.value }
+        ensures scope { self.old.stage ≡ Stage.Prepared → result ≡ Ok tt → (state_of_machine self.new).scope ≡ scope_behind self.old.program.now.inspector (state_of_machine self.old).scope }
     {
         match self.stage {
             Stage::Prepared => self.run_inspector(),
@@ -104,6 +105,7 @@ impl<'a> Machine<'a> {
         ensures no_memory { result ≡ Err Stop.NoMemory → self.new.stage ≡ Stage.NoMemory }
         ensures program { self.new.program ≡ self.old.program }
         ensures values { (state_of_machine self.new).sight.value ≡ (state_of_machine self.old).sight.value }
+        ensures scope { result ≡ Ok tt → (state_of_machine self.new).scope ≡ scope_behind self.old.program.now.inspector (state_of_machine self.old).scope }
     {
         match inspect_on(self.alloc, &mut self.store, self.program) {
             Ok(()) => {
@@ -154,11 +156,11 @@ impl<'a> Machine<'a> {
         }
     }
 
-    /// Runs the executor, and writes a line for each assignment right before it is made. It takes no memory. After a
+    /// Runs the executor, and writes the line of each assignment right before it is made. It takes no memory. After a
     /// failed line a later run begins from the arrays as they are then.
     pub fn execute_traced<S: Sink>(&mut self, sink: &mut S) -> Result<(), TraceFault>
         requires { IsInspected self.old.stage }
-        ensures ends { self.old.stage ≡ Stage.Inspected → TraceEnds result (executor_run self.old.program.now (state_of_machine self.old)) (memory_in (state_of_machine self.new)) (S.state sink.old) (S.state sink.new) }
+        ensures ends { self.old.stage ≡ Stage.Inspected → TraceEnds result (executor_lines self.old.program.now (state_of_machine self.old)) (executor_run self.old.program.now (state_of_machine self.old)) (memory_in (state_of_machine self.new)) (S.state sink.old) (S.state sink.new) }
         ensures later { (S.state sink.old).faults ≤ (S.state sink.new).faults }
         ensures ok { result ≡ Ok tt → self.new.stage ≡ Stage.Inspected }
         ensures refused { (fault : RunFault) → result ≡ Err (TraceFault.Run fault) → self.new.stage ≡ Stage.Refused fault }
@@ -176,7 +178,7 @@ impl<'a> Machine<'a> {
 
     fn trace_executor<S: Sink>(&mut self, sink: &mut S) -> Result<(), TraceFault>
         requires { self.old.stage ≡ Stage.Inspected }
-        ensures ends { TraceEnds result (executor_run self.old.program.now (state_of_machine self.old)) (memory_in (state_of_machine self.new)) (S.state sink.old) (S.state sink.new) }
+        ensures ends { TraceEnds result (executor_lines self.old.program.now (state_of_machine self.old)) (executor_run self.old.program.now (state_of_machine self.old)) (memory_in (state_of_machine self.new)) (S.state sink.old) (S.state sink.new) }
         ensures later { (S.state sink.old).faults ≤ (S.state sink.new).faults }
         ensures ok { result ≡ Ok tt → self.new.stage ≡ Stage.Inspected }
         ensures refused { (fault : RunFault) → result ≡ Err (TraceFault.Run fault) → self.new.stage ≡ Stage.Refused fault }

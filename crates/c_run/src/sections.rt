@@ -1,9 +1,9 @@
 // The two sections of a program, run on a store.
 ghost use Rattle.std.specs.Prelude.{◌≡◌, ◌≤◌, Ok};
 ghost use Rattle.c_walk.specs.State.{memory_in};
-ghost use Rattle.c_run.specs.Ready.{CanInspect, CanExecute};
+ghost use Rattle.c_run.specs.Ready.{CanInspect, CanExecute, scope_behind};
 ghost use Rattle.c_run.specs.Store.{state_of_store};
-ghost use Rattle.c_run.specs.Sections.{Ended, InspectorEnds, TraceEnds, inspector_run, executor_run};
+ghost use Rattle.c_run.specs.Sections.{Ended, InspectorEnds, TraceEnds, inspector_run, executor_run, executor_lines};
 
 use crate::fault::{RunFault, Section, TraceFault, fault_of};
 use crate::inspector::inspect;
@@ -22,6 +22,7 @@ pub(crate) fn inspect_on(
     requires { CanInspect program.now (state_of_store store.old) }
     ensures ends { InspectorEnds result (inspector_run program.now (state_of_store store.old)) (memory_in (state_of_store store.new)) }
     ensures values { (state_of_store store.new).sight.value ≡ (state_of_store store.old).sight.value }
+    ensures scope { result ≡ Ok tt → (state_of_store store.new).scope ≡ scope_behind program.now.inspector (state_of_store store.old).scope }
     ensures ready { result ≡ Ok tt → CanExecute program.now (state_of_store store.new) }
 {
     match inspect(alloc, store, &program.inspector) {
@@ -59,7 +60,7 @@ pub(crate) fn trace_on<S: Sink>(
     sink: &mut S,
 ) -> Result<(), TraceFault>
     requires { CanExecute program.now (state_of_store store.old) }
-    ensures ends { TraceEnds result (executor_run program.now (state_of_store store.old)) (memory_in (state_of_store store.new)) (S.state sink.old) (S.state sink.new) }
+    ensures ends { TraceEnds result (executor_lines program.now (state_of_store store.old)) (executor_run program.now (state_of_store store.old)) (memory_in (state_of_store store.new)) (S.state sink.old) (S.state sink.new) }
     ensures later { (S.state sink.old).faults ≤ (S.state sink.new).faults }
     ensures ready { CanExecute program.now (state_of_store store.new) }
 {

@@ -4,3 +4,5 @@ pub mod Cells
 pub mod Counts
 pub mod Places
 pub mod LeftSides
+pub mod Expressions
+pub mod Steps

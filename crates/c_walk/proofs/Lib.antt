@@ -7,3 +7,4 @@ pub mod DataFits
 pub mod Growths
 pub mod Told
 pub mod Shown
+pub mod Hearing

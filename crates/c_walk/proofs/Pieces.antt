@@ -146,7 +146,7 @@ one_turn F G x v s s1 s2 s3 r h k e d = record {
     outcome : G (memory_in s) ≡ F (memory_in s1)
     outcome = ap (λ F. F (memory_in s)) (sym e) ∙ ap F (sym (ap memory_in h))
 
-does_turn : (F : Run) (s s' : State) (r : Ended) → Does F s s' r → Does (turn F) s s' r
+pub does_turn : (F : Run) (s s' : State) (r : Ended) → Does F s s' r → Does (turn F) s s' r
 does_turn F s s' r d = record { frame = d.frame; ends = ends_as r (F (memory_in s)) (turn F (memory_in s)) (memory_in s') refl refl (λ g. g) d.ends }
 
 -- how many turns are left
@@ -175,10 +175,10 @@ widths_next ts ts' t h = ap (λ ts. widths (map part ts)) h
 pub widths_none : (ts : List Stmt) → ts ≡ [] → widths (map part ts) ≡ 0
 widths_none ts h = ap (λ ts. widths (map part ts)) h
 
-lt_of : (v h : ℤ) → int_lt v h ≡ true → v <ℤ h
+pub lt_of : (v h : ℤ) → int_lt v h ≡ true → v <ℤ h
 lt_of v h e = grind (arith, ints)
 
-le_of : (v h : ℤ) → int_lt v h ≡ false → h ≤ℤ v
+pub le_of : (v h : ℤ) → int_lt v h ≡ false → h ≤ℤ v
 le_of v h e = grind (arith, ints)
 
 answered : (F G : Run) (s s' : State) (r r' : Ended) → F ≡ G → r ≡ r' → Does F s s' r → Does G s s' r'

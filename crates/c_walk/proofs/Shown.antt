@@ -1,38 +1,20 @@
 -- The cells of an expression that has a value have subscripts that have values.
-use Rattle.std.proofs.Common.{ℕ, ◌≡◌, refl, sym, ap, ◌∙◌, subst, ℤ, List, Bool, true, ◌&&◌, if◌then◌else◌, Ok, Err, is_ok}
+use Rattle.std.proofs.Common.{ℕ, ◌≡◌, refl, sym, ap, ◌∙◌, ℤ, List, Bool, true, ◌&&◌, if◌then◌else◌, Ok, Err, is_ok}
 use Rattle.c_tree.specs.declared.index.Cell.{Cell}
-use Rattle.c_tree.specs.declared.data.Expr.{Expr, Expr-F, ind-Expr, map-Expr, roll-Expr}
-use Rattle.c_tree.specs.declared.data.Expr.TheOpen as layer
-use Rattle.c_tree.specs.declared.data.Expr.TheVariants.{Const, At, Plus, Minus, Times, rolls-Const, rolls-At, rolls-Plus, rolls-Minus, rolls-Times}
+use Rattle.c_tree.specs.declared.data.Expr.{Expr}
+use Rattle.c_tree.specs.declared.data.Expr.TheVariants.{Const, At, Plus, Minus, Times}
 use Rattle.c_meaning.specs.declared.fault.EvalFault.TheVariants.{Outside}
 use Rattle.c_meaning.specs.Memory.{Spot}
 use Rattle.c_meaning.specs.Scope.{data_cell_fits}
 use Rattle.c_meaning.specs.Value.{Answer, ◌>>=◌, subscripts_of}
 use Rattle.c_trace.specs.Lines.{has_cells}
+use Rattle.c_trace.proofs.Expressions.{induct}
 use Rattle.c_trace.proofs.Cells.{has-Const, has-At, has-Plus, has-Minus, has-Times}
 use Rattle.c_walk.specs.State.{State}
 use Rattle.c_walk.specs.Ready.{data_fits}
 use Rattle.c_walk.specs.Data.{scene, worth_of, data_value, on_numbers, plus_of, minus_of, times_of}
 use Rattle.c_walk.proofs.DataFits.{cell-At, left-Plus, right-Plus, left-Minus, right-Minus, left-Times, right-Times}
 use Rattle.c_walk.proofs.Worths.{worth-At, worth-Plus, worth-Minus, worth-Times}
-
--- what is to be shown at each kind of data expression
-record Cases (P : Expr → Type 0) : Type 0 where
-  constant : (n : ℕ) → P (Const n)
-  cell : (x : Cell) → P (At x)
-  plus : (a b : Expr) → P a → P b → P (Plus a b)
-  minus : (a b : Expr) → P a → P b → P (Minus a b)
-  times : (a b : Expr) → P a → P b → P (Times a b)
-
-layer_of : {A : Type 0} (P : Expr → Type 0) → Cases P → (f : A → Expr) (g : (a : A) → P (f a)) (y : Expr-F A) → P (roll-Expr (map-Expr A Expr f y))
-layer_of P cases f g (layer.Const n) = subst P (sym (rolls-Const n)) (cases.constant n)
-layer_of P cases f g (layer.At x) = subst P (sym (rolls-At x)) (cases.cell x)
-layer_of P cases f g (layer.Plus a b) = subst P (sym (rolls-Plus (f a) (f b))) (cases.plus (f a) (f b) (g a) (g b))
-layer_of P cases f g (layer.Minus a b) = subst P (sym (rolls-Minus (f a) (f b))) (cases.minus (f a) (f b) (g a) (g b))
-layer_of P cases f g (layer.Times a b) = subst P (sym (rolls-Times (f a) (f b))) (cases.times (f a) (f b) (g a) (g b))
-
-induct : (P : Expr → Type 0) → Cases P → (e : Expr) → P e
-induct P cases = ind-Expr P (λ x y e. subst (λ d. P (roll-Expr d)) e (layer_of P cases (λ e. e.0) (λ e. e.1) y))
 
 pub both : (p q : Bool) → p ≡ true → q ≡ true → (p && q) ≡ true
 both p q h k = ap (λ t. t && q) h ∙ k

@@ -40,26 +40,40 @@ width-Declare t name kind inner h = ap (λ t. (part t).width) h ∙ ap (λ p. p.
 pub width-Grow : (t : Stmt) (name : Name) (by : Index) → t ≡ Grow name by → (part t).width ≡ 1
 width-Grow t name by h = ap (λ t. (part t).width) h ∙ ap (λ p. p.width) (ran-Grow name by)
 
--- from the run at the place that the code made to the statement's own
+-- the run at the place that the code made is the statement's own
+module _ (t : Stmt) (c : Env) (at here : Place) (n : ℕ) (e : here ≡ child at n) where
+  pub same-For : (x : Name) (low high : Index) (body : List Stmt) → t ≡ For x low high body → for_run x low high (map part body) c here ≡ (part t).run c at n
+  same-For x low high body h = ap (for_run x low high (map part body) c) e ∙ ap (λ p. p.run c at n) (sym (ran-For x low high body)) ∙ ap (λ t. (part t).run c at n) (sym h)
+
+  pub same-Assign : (target : Cell) (how : How) (value : Expr) → t ≡ Assign target how value → assignment target how value c here ≡ (part t).run c at n
+  same-Assign target how value h = ap (assignment target how value c) e ∙ ap (λ p. p.run c at n) (sym (ran-Assign target how value)) ∙ ap (λ t. (part t).run c at n) (sym h)
+
+  pub same-Put : (target : Cell) (value : Index) → t ≡ Put target value → index_assignment target value c here ≡ (part t).run c at n
+  same-Put target value h = ap (index_assignment target value c) e ∙ ap (λ p. p.run c at n) (sym (ran-Put target value)) ∙ ap (λ t. (part t).run c at n) (sym h)
+
+  pub same-Grow : (name : Name) (by : Index) → t ≡ Grow name by → growth name by c here ≡ (part t).run c at n
+  same-Grow name by h = ap (growth name by c) e ∙ ap (λ p. p.run c at n) (sym (ran-Grow name by)) ∙ ap (λ t. (part t).run c at n) (sym h)
+
+-- so what it did is what the statement does
 module _ (t : Stmt) (c : Env) (at here : Place) (n : ℕ) (s s' : State) (r : Ended) (e : here ≡ child at n) where
   pub does-For : (x : Name) (low high : Index) (body : List Stmt) → t ≡ For x low high body → Does (for_run x low high (map part body) c here) s s' r → Does ((part t).run c at n) s s' r
-  does-For x low high body h d = subst (λ F. Does F s s' r) (ap (for_run x low high (map part body) c) e ∙ ap (λ p. p.run c at n) (sym (ran-For x low high body)) ∙ ap (λ t. (part t).run c at n) (sym h)) d
+  does-For x low high body h d = subst (λ F. Does F s s' r) (same-For t c at here n e x low high body h) d
 
   pub does-Assign : (target : Cell) (how : How) (value : Expr) → t ≡ Assign target how value → Does (assignment target how value c here) s s' r → Does ((part t).run c at n) s s' r
-  does-Assign target how value h d = subst (λ F. Does F s s' r) (ap (assignment target how value c) e ∙ ap (λ p. p.run c at n) (sym (ran-Assign target how value)) ∙ ap (λ t. (part t).run c at n) (sym h)) d
+  does-Assign target how value h d = subst (λ F. Does F s s' r) (same-Assign t c at here n e target how value h) d
 
   pub does-Put : (target : Cell) (value : Index) → t ≡ Put target value → Does (index_assignment target value c here) s s' r → Does ((part t).run c at n) s s' r
-  does-Put target value h d = subst (λ F. Does F s s' r) (ap (index_assignment target value c) e ∙ ap (λ p. p.run c at n) (sym (ran-Put target value)) ∙ ap (λ t. (part t).run c at n) (sym h)) d
+  does-Put target value h d = subst (λ F. Does F s s' r) (same-Put t c at here n e target value h) d
 
   pub does-Grow : (name : Name) (by : Index) → t ≡ Grow name by → Does (growth name by c here) s s' r → Does ((part t).run c at n) s s' r
-  does-Grow name by h d = subst (λ F. Does F s s' r) (ap (growth name by c) e ∙ ap (λ p. p.run c at n) (sym (ran-Grow name by)) ∙ ap (λ t. (part t).run c at n) (sym h)) d
+  does-Grow name by h d = subst (λ F. Does F s s' r) (same-Grow t c at here n e name by h) d
 
 -- a guard
 module _ (t : Stmt) (c : Env) (at : Place) (n : ℕ) (tests : List Test) (body : List Stmt) (h : t ≡ If tests body) where
   chosen : Bool → Run
   chosen b = if b then sequence (map part body) c at n else nothing
 
-  guard_is : given (child at n) (λ m. all_hold tests (sight_of c m)) (λ b. if b then sequence (map part body) c at n else nothing) ≡ (part t).run c at n
+  pub guard_is : given (child at n) (λ m. all_hold tests (sight_of c m)) (λ b. if b then sequence (map part body) c at n else nothing) ≡ (part t).run c at n
   guard_is = ap (λ p. p.run c at n) (sym (ran-If tests body)) ∙ ap (λ t. (part t).run c at n) (sym h)
 
   pub does_body : (s s' : State) (r : Ended) → all_hold tests (sight_of c (memory_in s)) ≡ Ok true → Does (sequence (map part body) c at n) s s' r → Does ((part t).run c at n) s s' r

@@ -1,6 +1,6 @@
 -- What a piece of a run did.
-use Rattle.std.specs.Prelude.{◌≡◌, ◌≤◌, Bool, true, false, ◌||◌, List, [], ◌∷◌, Some, None, Result, Ok, Err}
-use Rattle.chill_base.specs.Outside.{SinkState, Rose}
+use Rattle.std.specs.Prelude.{◌≡◌, ◌≤◌, ℕ, Bool, true, false, ◌||◌, List, [], ◌∷◌, ◌++◌, Some, None, Result, Ok, Err}
+use Rattle.chill_base.specs.Outside.{SinkState, Rose, Wrote, IsProperFront}
 use Rattle.c_tree.specs.declared.index.Cell.{Cell}
 use Rattle.c_tree.specs.declared.index.Index.{Index}
 use Rattle.c_tree.specs.declared.data.Expr.{Expr}
@@ -8,8 +8,10 @@ use Rattle.c_tree.specs.declared.program.Kind.{Kind}
 use Rattle.c_tree.specs.declared.statement.How.{How}
 use Rattle.c_meaning.specs.Names.{Name, Place}
 use Rattle.c_meaning.specs.Memory.{Memory, Env}
+use Rattle.c_meaning.specs.Ground.{Step}
 use Rattle.c_meaning.specs.Listing.{Item, assigned, scene_of}
 use Rattle.c_meaning.specs.Run.{Deed, assign, put, declare, grow, Outcome, Run, given, performs, put_step, declare_step, grow_step}
+use Rattle.c_trace.specs.Steps.{lines}
 use Rattle.c_walk.specs.declared.halt.Halt.{Halt}
 use Rattle.c_walk.specs.declared.halt.Halt.TheVariants.{Fault, NoMemory, WriteFault}
 use Rattle.c_walk.specs.State.{State, memory_in, with_memory}
@@ -39,10 +41,23 @@ pub record Does {A : Type 0} (F : Run) (s s' : State) (r : Result A Halt) : Type
   pub frame : s' ≡ with_memory (memory_in s') s
   pub ends : Ends r (F (memory_in s)) (memory_in s')
 
--- Of one who is told the assignments: no count falls, and a line isn't taken only where the count of faults rose.
-pub record Told {A : Type 0} (before after : SinkState) (r : Result A Halt) : Type 0 where
+-- what one who is told the assignments of a run from that state is to take
+abbrev pub told_of : (Item Step → List ℕ) → Run → State → List ℕ
+told_of line F s = lines line (F (memory_in s)).items
+
+-- Beside an answer: all of the text was taken, which ends where the run ends; a front of it where memory ran out, and one
+-- that isn't all of it where a line wasn't taken.
+abbrev pub Takes : {A : Type 0} → Result A Halt → List ℕ → SinkState → SinkState → Type 0
+Takes (Ok a) text before after = Wrote before text after
+Takes (Err (Fault place fault)) text before after = Wrote before text after
+Takes (Err NoMemory) text before after = (front rest : List ℕ) × (text ≡ front ++ rest) × Wrote before front after
+Takes (Err WriteFault) text before after = (front : List ℕ) × IsProperFront front text × Wrote before front after
+
+-- Of one who is to take the text: no count falls, and a line isn't taken only where the count of faults rose.
+pub record Told {A : Type 0} (text : List ℕ) (before after : SinkState) (r : Result A Halt) : Type 0 where
   pub later : before.faults ≤ after.faults
   pub cause : r ≡ Err WriteFault → Rose before.faults after.faults
+  pub takes : Takes r text before after
 
 -- what doesn't speak of a listener has no write fault
 abbrev pub IsQuiet : {A : Type 0} → Result A Halt → Type 0

@@ -1,12 +1,11 @@
 // Who is told the assignments of a run.
-ghost use Rattle.std.specs.Prelude.{List, ℕ, [], None, IsTrue};
-ghost use Rattle.c_tree.specs.declared.index.Cell.{Cell};
-ghost use Rattle.c_tree.specs.declared.data.Expr.{Expr};
-ghost use Rattle.c_tree.specs.declared.statement.How.{How};
+ghost use Rattle.std.specs.Prelude.{◌≡◌, List, ℕ, [], Bool, None, Ok, IsTrue};
 ghost use Rattle.chill_base.specs.Outside.{SinkState, WritesAll};
-ghost use Rattle.c_meaning.specs.Names.{Place};
-ghost use Rattle.c_meaning.specs.Value.{Sight};
-ghost use Rattle.c_trace.specs.Lines.{has_cell, has_cells, assignment_line};
+ghost use Rattle.c_meaning.specs.Memory.{Spot};
+ghost use Rattle.c_meaning.specs.Ground.{Step};
+ghost use Rattle.c_meaning.specs.Listing.{Item, assigned};
+ghost use Rattle.c_trace.specs.Lines.{has_cell, has_cells};
+ghost use Rattle.c_trace.specs.Steps.{Dimensions, step_line};
 
 use c_meaning::View;
 use c_trace::print_assignment;
@@ -18,8 +17,8 @@ pub trait Listener {
     /// What it has taken, and how often it has failed.
     ghost heard: { Self → SinkState };
 
-    /// What it takes of an assignment.
-    ghost line: { Place → Cell → How → Expr → Sight → List ℕ };
+    /// What it takes of an assignment at its place.
+    ghost line: { Dimensions → Item Step → List ℕ };
 
     /// Is told an assignment right before it is made.
     fn hear<V: View>(
@@ -32,7 +31,7 @@ pub trait Listener {
     ) -> Result<(), Failed>
         requires target { IsTrue (has_cell target.now (V.scope view.now) (V.sight view.now)) }
         requires value { IsTrue (has_cells value.now (V.scope view.now) (V.sight view.now)) }
-        ensures { WritesAll (heard self.old) (line place.now target.now how value.now (V.sight view.now)) (heard self.new) result };
+        ensures { (inside : Spot → Bool) (t : Step) → assigned target.now how value.now (record { sight = V.sight view.now; inside = inside }) ≡ Ok t → WritesAll (heard self.old) (line (V.scope view.now).data_arrays (record { place = place.now; step = t })) (heard self.new) result };
 }
 
 /// Who doesn't listen.
@@ -42,7 +41,7 @@ pub struct Silent;
 impl Listener for Silent {
     ghost heard = { λ _. record { faults = 0; taken = None } };
 
-    ghost line = { λ p target how value s. [] };
+    ghost line = { λ d i. [] };
 
     fn hear<V: View>(
         &mut self,
@@ -60,7 +59,7 @@ impl Listener for Silent {
 impl<S: Sink> Listener for S {
     ghost heard = { S.state };
 
-    ghost line = { assignment_line };
+    ghost line = { step_line };
 
     fn hear<V: View>(
         &mut self,

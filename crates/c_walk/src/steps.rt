@@ -5,7 +5,7 @@ ghost use Rattle.c_meaning.specs.Ground.{updated};
 ghost use Rattle.c_meaning.specs.Run.{is_within, grown};
 ghost use Rattle.c_walk.specs.State.{state_of};
 ghost use Rattle.c_walk.specs.Ready.{data_fits, has_array};
-ghost use Rattle.c_walk.specs.Does.{Does, Told, IsQuiet, assignment, index_assignment, growth};
+ghost use Rattle.c_walk.specs.Does.{Does, Told, IsQuiet, told_of, assignment, index_assignment, growth};
 
 use crate::data::eval_data;
 use crate::{Halt, Listener, Memory};
@@ -34,7 +34,7 @@ pub(crate) fn assign<M: Memory, L: Listener>(
 ) -> Result<(), Halt>
     requires { IsTrue (data_cell_fits target.now (M.scope memory.old) && data_fits value.now (M.scope memory.old)) }
     ensures does { Does (assignment target.now how value.now (M.sight memory.old).value place.now) (state_of (M.scope memory.old) (M.sight memory.old) (M.rest memory.old)) (state_of (M.scope memory.new) (M.sight memory.new) (M.rest memory.new)) result }
-    ensures told { Told (L.heard listener.old) (L.heard listener.new) result }
+    ensures told { Told (told_of (L.line (M.scope memory.old).data_arrays) (assignment target.now how value.now (M.sight memory.old).value place.now) (state_of (M.scope memory.old) (M.sight memory.old) (M.rest memory.old))) (L.heard listener.old) (L.heard listener.new) result }
 {
     let worth = match eval_data(value, memory) {
         Ok(worth) => worth,

@@ -9,7 +9,7 @@ ghost use Rattle.c_meaning.specs.Listing.{above_zero};
 ghost use Rattle.c_meaning.specs.Run.{part, widths, sequence, turns, for_run};
 ghost use Rattle.c_walk.specs.State.{state_of, with_number};
 ghost use Rattle.c_walk.specs.Ready.{is_ready, are_ready, most_loops, most_children};
-ghost use Rattle.c_walk.specs.Does.{Does, Told};
+ghost use Rattle.c_walk.specs.Does.{Does, Told, told_of};
 
 use crate::steps::{assign, grow, put};
 use crate::{Halt, Listener, Memory};
@@ -85,7 +85,7 @@ pub fn run_statements<M: Memory, L: Listener>(
     requires place { length at.now ≡ 2 * length (M.rest memory.old).outer }
     requires few { first + widths (map part list.now) ≤ 2 ^ 33 }
     ensures does { Does (sequence (map part list.now) (M.sight memory.old).value at.now first) (state_of (M.scope memory.old) (M.sight memory.old) (M.rest memory.old)) (state_of (M.scope memory.new) (M.sight memory.new) (M.rest memory.new)) result }
-    ensures told { Told (L.heard listener.old) (L.heard listener.new) result }
+    ensures told { Told (told_of (L.line (M.scope memory.old).data_arrays) (sequence (map part list.now) (M.sight memory.old).value at.now first) (state_of (M.scope memory.old) (M.sight memory.old) (M.rest memory.old))) (L.heard listener.old) (L.heard listener.new) result }
 {
     let mut position = first;
     for statement in list.as_slice() {
@@ -111,7 +111,7 @@ pub fn run_statement<M: Memory, L: Listener>(
     requires place { length at.now ≡ 2 * length (M.rest memory.old).outer }
     requires few { position + (part statement.now).width ≤ 2 ^ 33 }
     ensures does { Does ((part statement.now).run (M.sight memory.old).value at.now position) (state_of (M.scope memory.old) (M.sight memory.old) (M.rest memory.old)) (state_of (M.scope memory.new) (M.sight memory.new) (M.rest memory.new)) result }
-    ensures told { Told (L.heard listener.old) (L.heard listener.new) result }
+    ensures told { Told (told_of (L.line (M.scope memory.old).data_arrays) ((part statement.now).run (M.sight memory.old).value at.now position) (state_of (M.scope memory.old) (M.sight memory.old) (M.rest memory.old))) (L.heard listener.old) (L.heard listener.new) result }
 {
     let here = child_of(at, position);
     match statement {
@@ -155,7 +155,7 @@ fn run_loop<M: Memory, L: Listener>(
     requires place { length at.now ≡ 2 * length (M.rest memory.old).outer + 1 }
     requires few { widths (map part body.now) ≤ most_children }
     ensures does { Does (for_run var.now low.now high.now (map part body.now) (M.sight memory.old).value at.now) (state_of (M.scope memory.old) (M.sight memory.old) (M.rest memory.old)) (state_of (M.scope memory.new) (M.sight memory.new) (M.rest memory.new)) result }
-    ensures told { Told (L.heard listener.old) (L.heard listener.new) result }
+    ensures told { Told (told_of (L.line (M.scope memory.old).data_arrays) (for_run var.now low.now high.now (map part body.now) (M.sight memory.old).value at.now) (state_of (M.scope memory.old) (M.sight memory.old) (M.rest memory.old))) (L.heard listener.old) (L.heard listener.new) result }
 {
     let from = match eval_index(low, memory) {
         Ok(value) => value,
@@ -183,7 +183,7 @@ fn run_turns<M: Memory, L: Listener>(
     requires place { length at.now ≡ 2 * length (M.rest memory.old).outer + 1 }
     requires few { widths (map part body.now) ≤ most_children }
     ensures does { Does (turns (above_zero (to -ℤ from)) from (λ v. sequence (map part body.now) (bound var.now v (M.sight memory.old).value) (at.now ++ v ∷ []) 0)) (state_of (M.scope memory.old) (M.sight memory.old) (M.rest memory.old)) (state_of (M.scope memory.new) (M.sight memory.new) (M.rest memory.new)) result }
-    ensures told { Told (L.heard listener.old) (L.heard listener.new) result }
+    ensures told { Told (told_of (L.line (M.scope memory.old).data_arrays) (turns (above_zero (to -ℤ from)) from (λ v. sequence (map part body.now) (bound var.now v (M.sight memory.old).value) (at.now ++ v ∷ []) 0)) (state_of (M.scope memory.old) (M.sight memory.old) (M.rest memory.old))) (L.heard listener.old) (L.heard listener.new) result }
 {
     for value in from..to {
         if let Err(halt) = run_turn(memory, listener, body, var, value, at) {
@@ -207,7 +207,7 @@ fn run_turn<M: Memory, L: Listener>(
     requires place { length at.now ≡ 2 * length (M.rest memory.old).outer + 1 }
     requires few { widths (map part body.now) ≤ most_children }
     ensures does { Does (sequence (map part body.now) (bound var.now value (M.sight memory.old).value) (at.now ++ value ∷ []) 0) (state_of (M.scope memory.old) (M.sight memory.old) (M.rest memory.old)) (state_of (M.scope memory.new) (M.sight memory.new) (M.rest memory.new)) result }
-    ensures told { Told (L.heard listener.old) (L.heard listener.new) result }
+    ensures told { Told (told_of (L.line (M.scope memory.old).data_arrays) (sequence (map part body.now) (bound var.now value (M.sight memory.old).value) (at.now ++ value ∷ []) 0) (state_of (M.scope memory.old) (M.sight memory.old) (M.rest memory.old))) (L.heard listener.old) (L.heard listener.new) result }
 {
     memory.enter(*var, value);
     let mut here = *at;

@@ -34,7 +34,7 @@ Answers (Some (emit recipe source)) files files' out out' result =
 Answers (Some (run program values)) files files' out out' result =
     BothTold files.told files'.told (λ before after. Cause running program values before after out out' result)
 Answers (Some (trace program values)) files files' out out' result =
-    BothTold files.told files'.told (λ before after. TraceCause program values before after result)
+    BothTold files.told files'.told (λ before after. TraceCause program values before after out out' result)
 Answers (Some (work seed size)) files files' out out' result = WorkAnswer size out out' result
 Answers (Some (locate text token)) files files' out out' result =
     BothTold files.told files'.told (λ before after. PlaceCause text token before after out out' result)

@@ -1,5 +1,5 @@
 -- The text that is printed for a source of the first form performs as the source does.
-use Rattle.std.proofs.Common.{◌≡◌, ℕ, List, Some}
+use Rattle.std.proofs.Common.{◌≡◌, ℕ, List, Some, sym, ◌∙◌}
 use Rattle.c_tokens.specs.Pieces.{tokens_of}
 use Rattle.c_tree.specs.declared.program.Program.{Program}
 use Rattle.c_grammar.specs.Program.{IsProgram}
@@ -28,6 +28,7 @@ first_form_performs source p q h w =
       no_other = λ q' k. one_tree (tokens_of (program_text q)) q q' reads k;
       rules = λ k. written_rules p q k w;
       name = same.name;
+      matrices = same.no_new_matrix ∙ sym same.no_matrix;
       parameters = same.params;
       arrays = same.arrays;
       fine = λ i v. (runs_alike p q i w).fine (is_fine p q i w v);

@@ -14,7 +14,7 @@ abbrev pub Prescription : Type 0
 Prescription = Program → Input → List (Item Step)
 
 -- The text is that of one program and of no other, which keeps all rules where the source does. It has the source's name,
--- parameters and arrays. On every valid input its run has no fault, so each access is inside its array; its assignments are,
+-- matrices, parameters and arrays. On every valid input its run has no fault, so each access is inside its array; its assignments are,
 -- place by place, those that are prescribed; and it leaves each array of the signature as the source does.
 pub record PerformsAsSource (prescribed : Prescription) (source text : List ℕ) : Type 0 where
   pub origin : Program
@@ -24,6 +24,7 @@ pub record PerformsAsSource (prescribed : Prescription) (source text : List ℕ)
   pub no_other : (q : Program) → IsProgram (tokens_of text) q → q ≡ written
   pub rules : KeepsRules origin → KeepsRules written
   pub name : written.name ≡ origin.name
+  pub matrices : written.matrices ≡ origin.matrices
   pub parameters : written.params ≡ origin.params
   pub arrays : written.arrays ≡ origin.arrays
   pub fine : (i : Input) → IsValid origin i → IsFine written i

@@ -1,5 +1,5 @@
 -- What a whole text says.
-use Rattle.std.proofs.Common.{◌≡◌, ℕ, List, [], ◌++◌, Result, Ok, Err, refl, sym, ap, ◌∙◌, append-nil, subst}
+use Rattle.std.proofs.Common.{◌≡◌, ℕ, List, [], ◌++◌, Result, Ok, Err, sym, ap, ◌∙◌, append-nil}
 use Rattle.chill_base.specs.declared.faults.Stop.{Stop}
 use Rattle.chill_base.specs.declared.faults.Stop.TheVariants.{Refused, NoMemory}
 use Rattle.c_tree.specs.declared.program.Program.{Program}
@@ -9,11 +9,11 @@ use Rattle.csr_data.specs.Lines.{Said, dues, says_from}
 use Rattle.csr_data.specs.Matrices.{says}
 use Rattle.csr_data.specs.Parameters.{AreSmall}
 use Rattle.csr_data.specs.Reading.{checked, ReadsStop, TellsStop}
-use Rattle.csr_data.specs.Values.{params_of, arrays_of}
+use Rattle.csr_data.specs.Values.{params_of}
 use Rattle.csr_data.specs.Wanted.{given_of}
 use Rattle.csr_data.proofs.Told.{says_names, says_arrays}
 use Rattle.std.specs.Prelude.{IfOk}
-use Rattle.program_run.specs.Texts.{Gives, TellsValues}
+use Rattle.program_run.specs.Texts.{TellsValues}
 
 -- by what is told before any byte, and behind all of them
 module _ (p : Program) (text : List ℕ) (before after : List ℕ → Said) (fresh : (more : List ℕ) → before more ≡ says_from 1 (dues p) (record { params = []; arrays = [] }) more) where

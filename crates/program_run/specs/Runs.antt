@@ -1,9 +1,10 @@
 -- What a run of a program on values is, and the text that it leaves.
-use Rattle.std.specs.Prelude.{◌≡◌, ◌⊎◌, ℕ, Bool, true, false, List, [], ◌++◌, Result, Ok, Err, None}
-use Rattle.chill_base.specs.Outside.{SinkState, Rose}
+use Rattle.std.specs.Prelude.{◌≡◌, ◌⊎◌, ℕ, Bool, true, false, List, [], ◌++◌, Result, Ok, Err, Option, Some, None}
+use Rattle.chill_base.specs.Outside.{SinkState, Wrote}
 use Rattle.chill_base.specs.declared.faults.Stop.{Stop}
 use Rattle.chill_base.specs.declared.faults.Stop.TheVariants as stop
 use Rattle.c_tree.specs.declared.program.Program.{Program}
+use Rattle.c_meaning.specs.Listing.{Trouble}
 use Rattle.c_meaning.specs.Run.{Outcome, run}
 use Rattle.c_walk.specs.State.{State, memory_in}
 use Rattle.csr_data.specs.declared.values.Parameter.{Parameter}
@@ -14,7 +15,8 @@ use Rattle.c_run.specs.declared.fault.RunFault.TheVariants as fault
 use Rattle.c_run.specs.declared.fault.Section.{Section}
 use Rattle.c_run.specs.declared.fault.Section.TheVariants.{Inspector, Executor}
 use Rattle.c_run.specs.Printing.{arrays_text}
-use Rattle.c_run.specs.Sections.{Refuses, inspector_run, executor_run}
+use Rattle.c_run.specs.Ready.{scope_behind}
+use Rattle.c_run.specs.Sections.{Refuses, IsCut, inspector_run, executor_run, trace_of}
 use Rattle.c_run.specs.Store.{prepared}
 use Rattle.program_run.specs.declared.runs.TraceStop.{TraceStop}
 use Rattle.program_run.specs.declared.runs.TraceStop.TheVariants as traced
@@ -47,11 +49,22 @@ RunEnds p ps ts (Ok text) = LeavesText p ps ts text
 RunEnds p ps ts (Err (stop.Refused f)) = HasFault p ps ts f
 RunEnds p ps ts (Err stop.NoMemory) = Unit {0}
 
--- a traced run; where a line can't be written the sink's count rose
+-- behind an inspector with a fault nothing is traced
+abbrev pub traced_behind : Option Trouble → List ℕ → List ℕ
+traced_behind None text = text
+traced_behind (Some t) text = []
+
+-- The lines of a run: those of its executor's assignments up to the end or the fault, over the arrays of the signature and
+-- those that the inspector declares.
+abbrev pub trace_lines : Program → List Parameter → List Table → List ℕ
+trace_lines p ps ts =
+    traced_behind (inspected p ps ts).trouble (trace_of (scope_behind p.inspector (prepared ps ts).scope).data_arrays (executed p ps ts))
+
+-- A traced run. Its lines were written, or where a line can't be written a front of them.
 abbrev pub TraceEnds : Program → List Parameter → List Table → SinkState → SinkState → Result (Unit {0}) TraceStop → Type 0
-TraceEnds p ps ts s s' (Ok u) = IsDone p ps ts
-TraceEnds p ps ts s s' (Err (traced.Refused f)) = HasFault p ps ts f
-TraceEnds p ps ts s s' (Err traced.WriteFault) = Rose s.faults s'.faults
+TraceEnds p ps ts s s' (Ok u) = IsDone p ps ts × Wrote s (trace_lines p ps ts) s'
+TraceEnds p ps ts s s' (Err (traced.Refused f)) = HasFault p ps ts f × Wrote s (trace_lines p ps ts) s'
+TraceEnds p ps ts s s' (Err traced.WriteFault) = IsCut (trace_lines p ps ts) s s'
 TraceEnds p ps ts s s' (Err traced.NoMemory) = Unit {0}
 
 abbrev pub is_inspector : Section → Bool

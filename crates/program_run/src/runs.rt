@@ -54,7 +54,7 @@ fn execute_into(machine: &mut Machine, mut text: Vec<u8>) -> Result<Text, Stop<R
     }
 }
 
-/// Writes a line for each assignment of the program's executor.
+/// Writes the line of each assignment of the program's executor.
 pub fn trace<S: Sink>(
     alloc: Global,
     program: &Program,

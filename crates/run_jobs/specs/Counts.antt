@@ -56,7 +56,7 @@ pub record Does (job : Job) (asked : Option Command) (one two : List ℕ) (files
   pub counts : Counts asked files files' out out' result
 
 pub record Traces (one two : List ℕ) (files files' : FilesState) (out out' : SinkState) (result : Outcome) : Type 0 where
-  pub cause : BothTold files.told files'.told (λ before after. TraceCause one two before after result)
+  pub cause : BothTold files.told files'.told (λ before after. TraceCause one two before after out out' result)
   pub counts : Counts (Some (trace one two)) files files' out out' result
 
 -- the answer where a file wasn't read whole

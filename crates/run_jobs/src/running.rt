@@ -43,7 +43,7 @@ pub fn run_run<F: Files, O: Sink>(
     }
 }
 
-/// Reads both files, and writes a line for each assignment of the executor. Lines before a fault stay written.
+/// Reads both files, and writes the line of each assignment of the executor. Lines before a fault stay written.
 pub fn run_trace<F: Files, O: Sink>(
     alloc: Global,
     program: &str,

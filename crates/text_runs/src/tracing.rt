@@ -48,7 +48,7 @@ fn trace_on<S: Sink>(
     }
 }
 
-/// Writes a line for each assignment of the executor of the program of a source.
+/// Writes the line of each assignment of the executor of the program of a source.
 pub fn trace_by<S: Sink>(
     alloc: Global,
     source: &[u8],
@@ -71,7 +71,7 @@ pub fn trace_by<S: Sink>(
     }
 }
 
-/// Writes a line for each assignment of the executor of the program of a text.
+/// Writes the line of each assignment of the executor of the program of a text.
 pub fn trace_program<S: Sink>(
     alloc: Global,
     source: &[u8],

@@ -1,11 +1,12 @@
 // The values of a data text.
-ghost use Rattle.std.specs.Prelude.{◌≡◌, ◌≤◌, ◌^◌, IfOk, IfErr, length};
+ghost use Rattle.std.specs.Prelude.{◌≡◌, ◌≤◌, ◌^◌, [], IfOk, IfErr, length};
 ghost use Rattle.c_grammar.specs.Program.{IsProgram};
 ghost use Rattle.c_judge.specs.Rules.{KeepsRules};
 ghost use Rattle.c_tokens.specs.Pieces.{tokens_of};
 ghost use Rattle.outcomes.specs.Refusing.{IfRefused};
 ghost use Rattle.program_run.specs.Texts.{Gives};
 ghost use Rattle.text_runs.specs.Running.{RunCause};
+ghost use Rattle.text_runs.specs.Tracing.{lines_on};
 
 use c_tree::Program;
 use chill_base::Stop;
@@ -27,6 +28,8 @@ pub fn read_values(
     requires few { length input.now ≤ 2 ^ 62 }
     ensures ok { IfOk result (Gives program.now input.now) }
     ensures refused { IfErr result (IfRefused (RunCause program.now input.now)) }
+    // A text that is refused gives a trace no lines.
+    ensures untraced { IfErr result (IfRefused (λ r. lines_on program.now input.now ≡ [])) }
 {
     match values_of(alloc, program, input) {
         Ok(values) => Ok(values),

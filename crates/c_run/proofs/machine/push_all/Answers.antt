@@ -1,4 +1,4 @@
-use Rattle.std.proofs.Common.{◌≡◌, ◌<◌, length, get_or, refl, sym, ap, ◌∙◌, arith}
+use Rattle.std.proofs.Common.{length, get_or, refl, ap, ◌∙◌, arith}
 use Rattle.c_run.specs.Store.{scope_of_store, tables_of}
 use Rattle.c_run.proofs.Signatures.{is_table, at_index}
 use Rattle.c_run.proofs.machine.push_all.Goals as goal

@@ -1,4 +1,4 @@
-use Rattle.std.proofs.Common.{◌≡◌, length, sym, ap, ◌∙◌, Err}
+use Rattle.std.proofs.Common.{length, ap, ◌∙◌}
 use Rattle.c_meaning.specs.Run.{run}
 use Rattle.c_walk.specs.Ready.{are_ready}
 use Rattle.c_walk.specs.State.{State}

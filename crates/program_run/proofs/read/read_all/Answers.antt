@@ -1,4 +1,4 @@
-use Rattle.std.proofs.Common.{◌≡◌, [], sym, ap, ◌∙◌, subst}
+use Rattle.std.proofs.Common.{[], ap, ◌∙◌, subst}
 use Rattle.csr_data.specs.Reading.{told, checked, TellsStop}
 use Rattle.program_run.proofs.Telling.{all_read, refused_early}
 use Rattle.program_run.proofs.read.read_all.Goals as goal
