@@ -1,0 +1,11 @@
+mod Seated
+mod Alike
+mod Standing
+mod Placed
+mod Stopped
+mod Values
+mod Begun
+mod Seating
+mod Readings
+mod Sides
+mod Own
