@@ -1,11 +1,11 @@
-mod Seated
-mod Alike
-mod Standing
-mod Placed
-mod Stopped
-mod Values
-mod Begun
-mod Seating
-mod Readings
-mod Sides
-mod Own
+pub mod Seated
+pub mod Alike
+pub mod Standing
+pub mod Placed
+pub mod Stopped
+pub mod Values
+pub mod Begun
+pub mod Seating
+pub mod Readings
+pub mod Sides
+pub mod Own

@@ -17,7 +17,7 @@ use Rattle.nest_laws.proofs.Made.{coef-combined}
 use Rattle.nest_systems.specs.declared.seats.Seats.{Seats}
 use Rattle.nest_systems.specs.Sums.{number_at}
 use Rattle.nest_systems.specs.Placing.{numbers_there, total, small_total, or_large, is_level, seated_number, placed}
-use Rattle.point_laws.specs.Seated.{AreApart, seat_form, seat_variables, PlacedIsReplaced}
+use Rattle.point_laws.specs.Seated.{AreApart, seat_form, seat_variables, IsSeatedSmall, PlacedIsReplaced}
 
 pub below_or_not : (k n : ℕ) → (k < n) ⊎ (n ≤ k)
 below_or_not k zero = inr (omega arith)
@@ -160,7 +160,7 @@ nothing-there n v cs (Some w ∷ ts) h = by (nat_eq w v) refl (nothing-there (n 
     by true e k = absurd (h 0 w refl (eqb-true w v e))
     by false e k = rw e k
 
-module _ (s : Seats) (f : Aff) (a : AreApart s) (small : (v : ℕ) → v < s.vars → is_small (seated_number s f.coefs v) ≡ true) where
+module _ (s : Seats) (f : Aff) (a : AreApart s) (small : IsSeatedSmall s f) where
   abbrev cs : List ℤ
   cs = f.coefs
 
@@ -196,7 +196,7 @@ module _ (s : Seats) (f : Aff) (a : AreApart s) (small : (v : ℕ) → v < s.var
   seated-is v l = by (nat_lt v s.params) (is_level s v) refl refl (small v l)
     where
       by : (b c : Bool) → nat_lt v s.params ≡ b → is_level s v ≡ c
-          → is_small (cond b (number_at cs v) (cond c (number_at cs (s.params + (v - s.first_level))) (or_large (small_total (numbers_there (s.params + s.levels) s.terms v cs))))) ≡ true
+          → (b ≡ false → c ≡ false → is_small (cond b (number_at cs v) (cond c (number_at cs (s.params + (v - s.first_level))) (or_large (small_total (numbers_there (s.params + s.levels) s.terms v cs))))) ≡ true)
           → cond b (number_at cs v) (cond c (number_at cs (s.params + (v - s.first_level))) (or_large (small_total (numbers_there (s.params + s.levels) s.terms v cs)))) ≡ coef v (replaced (seat_variables s) f).coefs
       by true c e d k =
           let h : v < s.params = ltb-true v s.params e in
@@ -225,7 +225,7 @@ module _ (s : Seats) (f : Aff) (a : AreApart s) (small : (v : ℕ) → v < s.var
           let x = variables-none v 0 s.params cs (inr (omega (arith, u))) in
           let y = variables-none v s.first_level s.levels inner (no_level d) in
           let p = parts v in
-          let n = small_is (numbers_there (s.params + s.levels) s.terms v cs) k in
+          let n = small_is (numbers_there (s.params + s.levels) s.terms v cs) (k refl refl) in
           omega (arith, ints, p, x, y, n)
         where
           no_level : is_level s v ≡ false → (v < s.first_level) ⊎ (s.first_level + s.levels ≤ v)

@@ -122,3 +122,7 @@ module _ (x : Instance) (pl : Places) (s : Seats) (from : ℕ) (terms : List Ter
         levels = omega (arith, b, c, d, l, m);
         terms = λ t v e. let g = seat-is t v e in let k = at-within g.1 g.0 x.chosen.order g.4 in let w = g.3 in (omega (arith, b, c, l, w), omega (arith, d, m, w, k));
       }
+
+  -- the seats of terms are behind the first one
+  pub seats-there : (t v : ℕ) → slice_get s.terms t ≡ Some (Some v) → (pl.first_term ≤ v) × (v < pl.first_term + length x.chosen.order)
+  seats-there t v e = let g = seat-is t v e in let k = at-within g.1 g.0 x.chosen.order g.4 in let w = g.3 in (omega (arith, w), omega (arith, w, k))

@@ -40,7 +40,7 @@ use Rattle.point_laws.proofs.Alike.{coef-past}
 use Rattle.point_laws.proofs.Standing.{stood_for, within}
 use Rattle.point_laws.proofs.Placed.{placed_met}
 use Rattle.point_laws.proofs.Values.{get-within, length-range, number-small, small-append, span-wide, low-like, high-like, values_met}
-use Rattle.point_laws.proofs.Seating.{StandsIn, HasPlaces, seats-met, seats-at, seats-apart}
+use Rattle.point_laws.proofs.Seating.{StandsIn, HasPlaces, seats-met, seats-at, seats-apart, seats-there}
 use Rattle.point_laws.proofs.Readings.{at-got, map-got, nothing-in, reads, read-is, none-missing, none-more}
 
 all-append : {A : Type 0} (P : A → Type 0) (xs ys : List A) → AllByRecursion P xs → AllByRecursion P ys → AllByRecursion P (xs ++ ys)
@@ -55,6 +55,16 @@ unit-past f g c t v like l n =
     let d = coef-scaled v c (variable t).coefs ∙ ap (λ (z : ℤ). c *ℤ z) b ∙ *ℤ-zero c in
     let e = coef-added v f.coefs (times c (variable t)).coefs in
     like.coefs v ∙ e ∙ omega (arith, ints, a, d)
+
+-- a statement whose variables have their seats in a system, at a point of its own and one of the system, and forms of it that are no wider
+pub record IsPlaced (x : Instance) (pl : Places) (s : Seats) (p q : List ℤ) (forms : List Aff) (width : ℕ) : Type 0 where
+  pub seats : AreSeats x pl [] s
+  pub apart : AreApart s
+  pub seated : IsSeatedAt s p q
+  pub fits : (f : Aff) → IsIn f forms → length f.coefs ≤ width → IsSeatedSmall s f → FitsSeats s f
+  pub there : (t v : ℕ) → slice_get s.terms t ≡ Some (Some v) → (pl.first_term ≤ v) × (v < pl.first_term + length x.chosen.order)
+  pub own : Meets p x.rows → AreSmall s.vars (map (placed_row s) x.rows) → Meets q (map (placed_row s) x.rows)
+  pub ranges : AreSmall s.vars (map (placed_row s) x.ranges) → Meets q (map (placed_row s) x.ranges)
 
 module _ (head : Program) (made : List Made) (i : Input) (terms : List Term) (rows : List Row) (forms : List Aff) (x : Instance) (vs : List ℤ) (r : IsRanged head made i) (none : HasNoCounts head made)
     (over : AreOver (length head.params + length vs) terms rows) (part : IsPart head made (length vs) terms 0 rows forms x) where
@@ -204,7 +214,7 @@ module _ (head : Program) (made : List Made) (i : Input) (terms : List Term) (ro
     all-fit : (ws : List Row) → AllByRecursion IsHeld ws → AreSmall s.vars (map (placed_row s) ws) → AllByRecursion (RowFitsSeats s) ws
     unfolding placed
     all-fit [] h k = tt
-    all-fit (w ∷ ws) h k = (held-fits w.form (h.0).0 (h.0).1 (λ v l. number-small (seated_number s w.form.coefs) w.form.constant s.vars v (k.0).small l), all-fit ws h.1 k.1)
+    all-fit (w ∷ ws) h k = (held-fits w.form (h.0).0 (h.0).1 (λ v l a b. number-small (seated_number s w.form.coefs) w.form.constant s.vars v (k.0).small l), all-fit ws h.1 k.1)
 
     pub placed-rows-met : Meets p rows → AreSmall s.vars (map (placed_row s) x.rows) → Meets q (map (placed_row s) x.rows)
     placed-rows-met m k =
@@ -212,3 +222,14 @@ module _ (head : Program) (made : List Made) (i : Input) (terms : List Term) (ro
 
     pub placed-ranges-met : AreFound i terms vs → AreSmall (first + length x.terms) x.ranges → AreSmall s.vars (map (placed_row s) x.ranges) → Meets q (map (placed_row s) x.ranges)
     placed-ranges-met f h k = placed_met s x.ranges p q apart (all-fit x.ranges (ranges-held h) k) seated (ranges-met f h)
+
+    pub placed-well : AreFound i terms vs → AreSmall (first + length x.terms) x.ranges → IsPlaced x pl s p q forms (first + length terms)
+    placed-well f h = record {
+      seats = seats;
+      apart = apart;
+      seated = seated;
+      fits = λ g m l. held-fits g l (choice.2 g m);
+      there = seats-there x pl s (length terms - 0) terms p q seats stood no-ends;
+      own = λ m k. placed_met s x.rows p q apart (all-fit x.rows (subst (AllByRecursion IsHeld) (sym part.own_rows) (rows-held rows (λ w a. a))) k) seated m;
+      ranges = placed-ranges-met f h;
+    }
