@@ -1,11 +1,8 @@
 -- Where a candidate is excluded, no two instances name one cell and change their order.
-use Rattle.std.proofs.Common.{◌≡◌, ℕ, zero, suc, ◌<◌, Bool, true, List, [], ◌∷◌, ◌++◌, map, length, refl, sym, ◌∙◌, ap, subst, arith, ℤ, pos, ◌+ℤ◌, ◌*ℤ◌}
+use Rattle.std.proofs.Common.{◌≡◌, ℕ, zero, suc, ◌<◌, Bool, true, List, [], ◌∷◌, ◌++◌, map, length, refl, ◌∙◌, ap, subst, arith, ℤ}
 use Rattle.std.specs.Prelude.{slice_index_or, Ok}
-use Rattle.std.proofs.lemmas.Int.{ints}
 use Rattle.int_rows.specs.declared.row.Aff.{Aff}
 use Rattle.int_rows.specs.declared.row.Row.{Row}
-use Rattle.int_rows.specs.Rows.{dot, Holds, Meets as MeetsScaled}
-use Rattle.int_rows.specs.Systems.{Rows}
 use Rattle.int_rows.proofs.Following.{no_point}
 use Rattle.int_rows.proofs.Excluded.{excluded_has_no_point}
 use Rattle.nest_tree.specs.declared.kernel.Kernel.{Kernel}
@@ -20,19 +17,11 @@ use Rattle.point_laws.specs.Values.{AreSmall}
 use Rattle.point_laws.proofs.Values.{meets-append, small-append}
 use Rattle.depend_test.specs.Candidates.{Candidate, IsDecided, whole, alone}
 use Rattle.depend_test.specs.Orders.{order_rows}
-use Rattle.depend_test.specs.Pairs.{pair_rows}
 use Rattle.depend_test.specs.Systems.{SameCell, cell_system, with_orders, HasExcluded}
-use Rattle.pair_laws.specs.Pairs.{IsSideAt, StandBefore, pair_point, ArePairAt}
+use Rattle.pair_laws.specs.Pairs.{IsSideAt, StandBefore, pair_point}
 use Rattle.pair_laws.specs.Candidates.{IsSmallCandidate, ExcludedHasNoInstances}
-use Rattle.pair_laws.proofs.Pairs.{rows-met, cells-met, old-met, new-met}
-
--- a constant that is taken once
-meets-once : (p : List ℤ) (rows : List Row) → Meets p rows → MeetsScaled (pos 1) p rows
-meets-once p [] h = tt
-meets-once p (r ∷ rows) h = (subst (Holds r.equal) (once (dot (r.form).coefs p) (r.form).constant) h.0, meets-once p rows h.1)
-  where
-    once : (a c : ℤ) → a +ℤ c ≡ a +ℤ (pos 1 *ℤ c)
-    once a c = omega (arith, ints)
+use Rattle.pair_laws.proofs.Pairs.{old-met, new-met}
+use Rattle.pair_laws.proofs.Cells.{meets-once, at, equal-rows-met, cell-met}
 
 -- a row at a place of those that are met
 row-met : (q : List ℤ) (rows : List Row) (j : ℕ) (r : Row) → Meets q rows → j < length rows → slice_index_or rows j r ≡ r → MeetsRow q (slice_index_or rows j r)
@@ -53,9 +42,6 @@ module _ (k : Kernel) (i : Input) (n m : Nest) (fs gs : List Aff) (c : Candidate
   q = pair_point i n m vs us c.one c.other
 
   module _ (w : SameCell k c.one c.other c.first c.second) where
-    at : ArePairAt k i n m fs gs c.one c.other w.pair vs us
-    at = record { ranged = ranged; counts = counts; first = first; second = second; pair = w.is_pair }
-
     abbrev vars : ℕ
     vars = w.pair.first.vars
 
@@ -65,34 +51,26 @@ module _ (k : Kernel) (i : Input) (n m : Nest) (fs gs : List Aff) (c : Candidate
     abbrev new_rows : List Row
     new_rows = order_rows vars c.carried.new c.orders.new_shared w.pair.second_new w.pair.first_new
 
-    parts : AreSmall vars (w.pair.system.rows ++ w.equal) × AreSmall vars old_rows × AreSmall vars new_rows
+    parts : AreSmall vars (cell_system w).rows × AreSmall vars old_rows × AreSmall vars new_rows
     parts =
-        let a = small-append vars ((w.pair.system.rows ++ w.equal) ++ old_rows) new_rows (small w) in
-        let b = small-append vars (w.pair.system.rows ++ w.equal) old_rows a.0 in
+        let a = small-append vars ((cell_system w).rows ++ old_rows) new_rows (small w) in
+        let b = small-append vars (cell_system w).rows old_rows a.0 in
         (b.0, b.1, a.1)
 
-    equal-rows-met : Meets q w.equal
-    equal-rows-met =
-        let s = (small-append vars w.pair.system.rows w.equal parts.0).1 in
-        subst (Meets q) (sym w.are_equal) (cells-met k i n m fs gs c.one c.other w.pair vs us at c.first c.second x y same (subst (AreSmall vars) w.are_equal s))
-
-    system-rows-met : Meets q w.pair.system.rows
-    system-rows-met =
-        let s = (small-append vars w.pair.system.rows w.equal parts.0).0 in
-        let e : w.pair.system.rows ≡ pair_rows k c.one.instance c.other.instance w.pair.first w.pair.second = ap (λ (r : Rows). r.rows) w.is_pair.system in
-        subst (Meets q) (sym e)
-        (rows-met k i n m fs gs c.one c.other w.pair vs us at (subst (λ (v : ℕ). AreSmall v (pair_rows k c.one.instance c.other.instance w.pair.first w.pair.second)) w.is_pair.first.vars (subst (AreSmall vars) e s)))
+    equal-met : Meets q w.equal
+    equal-met = equal-rows-met k i n m fs gs c.one c.other vs us ranged counts first second c.first c.second w x y same (small-append vars w.pair.system.rows w.equal parts.0).1
 
     all-met : Meets q ((with_orders (cell_system w) w.pair c.orders c.carried).rows)
     all-met =
-        meets-append q ((w.pair.system.rows ++ w.equal) ++ old_rows) new_rows
-        (meets-append q (w.pair.system.rows ++ w.equal) old_rows (meets-append q w.pair.system.rows w.equal system-rows-met equal-rows-met)
-        (old-met k i n m fs gs c.one c.other w.pair vs us at c.carried.old c.orders.old_shared old parts.1))
-        (new-met k i n m fs gs c.one c.other w.pair vs us at c.carried.new c.orders.new_shared new parts.2)
+        let there = at k i n m fs gs c.one c.other vs us ranged counts first second c.first c.second w in
+        meets-append q ((cell_system w).rows ++ old_rows) new_rows
+        (meets-append q (cell_system w).rows old_rows (cell-met k i n m fs gs c.one c.other vs us ranged counts first second c.first c.second w x y same parts.0)
+        (old-met k i n m fs gs c.one c.other w.pair vs us there c.carried.old c.orders.old_shared old parts.1))
+        (new-met k i n m fs gs c.one c.other w.pair vs us there c.carried.new c.orders.new_shared new parts.2)
 
   excluded-none : (b : Bool) → b ≡ true → IsDecided k c b → ⊥
   excluded-none b e (whole _ w d) = no_point (with_orders (cell_system w) w.pair c.orders c.carried) q (d ∙ ap Ok e) (meets-once q ((with_orders (cell_system w) w.pair c.orders c.carried).rows) (all-met w))
-  excluded-none b e (alone w h) = none_alone w.pair.first.vars q w.equal (equal-rows-met w) h
+  excluded-none b e (alone w h) = none_alone w.pair.first.vars q w.equal (equal-met w) h
 
 pub no_instances : ExcludedHasNoInstances
 no_instances k i n m fs gs c vs us ranged counts decided small first second x y same old new = excluded-none k i n m fs gs c vs us ranged counts small first second x y same old new true refl decided

@@ -3,6 +3,7 @@
 
 ghost use Rattle.pair_laws.specs.Pairs.{PairIsMet, SubscriptsAreMet, OrdersAreMet};
 ghost use Rattle.pair_laws.specs.Candidates.{ExcludedHasNoInstances};
+ghost use Rattle.pair_laws.specs.Levels.{LevelHasNoDependence};
 
 /// The rows of a pair's system that speak of no order are met at points of both statements.
 pub fn pair_is_met()
@@ -22,4 +23,9 @@ pub fn orders_are_met()
 /// Where a candidate is excluded, no two instances name one cell and change their order as it says.
 pub fn excluded_has_no_instances()
     ensures { ExcludedHasNoInstances }
+{}
+
+/// Where no candidate of a level is open, no two instances that differ first there name one cell by conflicting accesses.
+pub fn level_has_no_dependence()
+    ensures { LevelHasNoDependence }
 {}
