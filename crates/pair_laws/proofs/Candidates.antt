@@ -1,0 +1,76 @@
+-- Where a candidate is excluded, no two instances name one cell and change their order.
+use Rattle.std.proofs.Common.{◌≡◌, ℕ, zero, suc, ◌<◌, Bool, true, List, [], ◌∷◌, ◌++◌, map, length, refl, ◌∙◌, ap, subst, arith, ℤ}
+use Rattle.std.specs.Prelude.{slice_index_or, Ok}
+use Rattle.int_rows.specs.declared.row.Aff.{Aff}
+use Rattle.int_rows.specs.declared.row.Row.{Row}
+use Rattle.int_rows.proofs.Following.{no_point}
+use Rattle.int_rows.proofs.Excluded.{excluded_has_no_point}
+use Rattle.nest_tree.specs.declared.kernel.Kernel.{Kernel}
+use Rattle.nest_tree.specs.declared.kernel.Nest.{Nest}
+use Rattle.nest_tree.specs.Lists.{IsIn}
+use Rattle.nest_tree.specs.Forms.{value, Meets, MeetsRow}
+use Rattle.nest_tree.specs.Kernels.{point}
+use Rattle.nest_tree.specs.Terms.{Input}
+use Rattle.nest_systems.specs.Cells.{cells}
+use Rattle.point_laws.specs.Ranges.{IsRanged, HasNoCounts}
+use Rattle.point_laws.specs.Values.{AreSmall}
+use Rattle.point_laws.proofs.Values.{meets-append, small-append}
+use Rattle.depend_test.specs.Candidates.{Candidate, IsDecided, whole, alone}
+use Rattle.depend_test.specs.Orders.{order_rows}
+use Rattle.depend_test.specs.Systems.{SameCell, cell_system, with_orders, HasExcluded}
+use Rattle.pair_laws.specs.Pairs.{IsSideAt, StandBefore, pair_point}
+use Rattle.pair_laws.specs.Candidates.{IsSmallCandidate, ExcludedHasNoInstances}
+use Rattle.pair_laws.proofs.Pairs.{old-met, new-met}
+use Rattle.pair_laws.proofs.Cells.{meets-once, at, equal-rows-met, cell-met}
+
+-- a row at a place of those that are met
+row-met : (q : List ℤ) (rows : List Row) (j : ℕ) (r : Row) → Meets q rows → j < length rows → slice_index_or rows j r ≡ r → MeetsRow q (slice_index_or rows j r)
+row-met q [] j r m l e = absurd (omega (arith, l))
+row-met q (x ∷ rows) zero r m l e = m.0
+row-met q (x ∷ rows) (suc j) r m l e = row-met q rows j r m.1 (omega (arith, l)) e
+
+-- no row of those that are met is excluded alone
+none_alone : (vars : ℕ) (q : List ℤ) (rows : List Row) → Meets q rows → HasExcluded vars rows → ⊥
+none_alone vars q rows m h =
+    let met : MeetsRow q h.1 = subst (MeetsRow q) h.3 (row-met q rows h.0 h.1 m h.2 h.3) in
+    excluded_has_no_point vars (h.1 ∷ []) q h.4 (meets-once q (h.1 ∷ []) (met, tt))
+
+module _ (k : Kernel) (i : Input) (n m : Nest) (fs gs : List Aff) (c : Candidate) (vs us : List ℤ) (ranged : IsRanged k.head k.made i) (counts : HasNoCounts k.head k.made) (small : IsSmallCandidate k c)
+    (first : IsSideAt k i n fs c.one vs) (second : IsSideAt k i m gs c.other us) (x : IsIn c.first (cells n)) (y : IsIn c.second (cells m)) (same : map (value (point i n vs)) c.first.at ≡ map (value (point i m us)) c.second.at)
+    (old : StandBefore c.carried.old c.orders.old_shared (map (value (point i n vs)) fs) (map (value (point i m us)) gs)) (new : StandBefore c.carried.new c.orders.new_shared us vs) where
+  abbrev q : List ℤ
+  q = pair_point i n m vs us c.one c.other
+
+  module _ (w : SameCell k c.one c.other c.first c.second) where
+    abbrev vars : ℕ
+    vars = w.pair.first.vars
+
+    abbrev old_rows : List Row
+    old_rows = order_rows vars c.carried.old c.orders.old_shared w.pair.first_old w.pair.second_old
+
+    abbrev new_rows : List Row
+    new_rows = order_rows vars c.carried.new c.orders.new_shared w.pair.second_new w.pair.first_new
+
+    parts : AreSmall vars (cell_system w).rows × AreSmall vars old_rows × AreSmall vars new_rows
+    parts =
+        let a = small-append vars ((cell_system w).rows ++ old_rows) new_rows (small w) in
+        let b = small-append vars (cell_system w).rows old_rows a.0 in
+        (b.0, b.1, a.1)
+
+    equal-met : Meets q w.equal
+    equal-met = equal-rows-met k i n m fs gs c.one c.other vs us ranged counts first second c.first c.second w x y same (small-append vars w.pair.system.rows w.equal parts.0).1
+
+    all-met : Meets q ((with_orders (cell_system w) w.pair c.orders c.carried).rows)
+    all-met =
+        let there = at k i n m fs gs c.one c.other vs us ranged counts first second c.first c.second w in
+        meets-append q ((cell_system w).rows ++ old_rows) new_rows
+        (meets-append q (cell_system w).rows old_rows (cell-met k i n m fs gs c.one c.other vs us ranged counts first second c.first c.second w x y same parts.0)
+        (old-met k i n m fs gs c.one c.other w.pair vs us there c.carried.old c.orders.old_shared old parts.1))
+        (new-met k i n m fs gs c.one c.other w.pair vs us there c.carried.new c.orders.new_shared new parts.2)
+
+  excluded-none : (b : Bool) → b ≡ true → IsDecided k c b → ⊥
+  excluded-none b e (whole _ w d) = no_point (with_orders (cell_system w) w.pair c.orders c.carried) q (d ∙ ap Ok e) (meets-once q ((with_orders (cell_system w) w.pair c.orders c.carried).rows) (all-met w))
+  excluded-none b e (alone w h) = none_alone w.pair.first.vars q w.equal (equal-met w) h
+
+pub no_instances : ExcludedHasNoInstances
+no_instances k i n m fs gs c vs us ranged counts decided small first second x y same old new = excluded-none k i n m fs gs c vs us ranged counts small first second x y same old new true refl decided

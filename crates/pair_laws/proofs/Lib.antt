@@ -1,0 +1,5 @@
+mod Differences
+mod Pairs
+mod Cells
+mod Candidates
+mod Levels

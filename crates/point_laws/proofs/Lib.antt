@@ -1,0 +1,11 @@
+pub mod Seated
+pub mod Alike
+pub mod Standing
+pub mod Placed
+pub mod Stopped
+pub mod Values
+pub mod Begun
+pub mod Seating
+pub mod Readings
+pub mod Sides
+pub mod Own
