@@ -1,0 +1,66 @@
+-- The worked cases, by the laws.
+use Rattle.std.proofs.Common.{◌≡◌, ℕ, zero, suc, ◌≤◌, ◌<◌, ◌^◌, [], ◌∷◌, refl, ◌∙◌, ap, subst, arith, ℤ, pos, unsigned_abs, Bool, true, false, slice_index_or, if◌then◌else◌}
+use Rattle.std.specs.Prelude.{Option, Some, None, Ok}
+use Rattle.std.proofs.lemmas.Int.{ints}
+use Rattle.c_meaning.specs.Names.{same_name}
+use Rattle.c_meaning.specs.Value.{Answer, is_inside}
+use Rattle.nest_laws.specs.Acts.{three}
+use Rattle.scan_forms.specs.Numbers.{number_at}
+use Rattle.scan_forms.specs.Sums as printing
+use Rattle.scanning.specs.Kernels.{product, index}
+use Rattle.scanning.specs.Written.{level_name}
+use Rattle.scanning_laws.specs.Examples.{nested_reads}
+use Rattle.printed_laws.specs.Printed.{Sees, CanBeRead}
+use Rattle.printed_laws.specs.Examples.{sight, input, levels, sizes, twice_column, printed, eighth, asked, WorkedForm, WorkedBound, WorkedTest}
+use Rattle.printed_laws.proofs.Bounds.{forms_have_values, bounds_have_values, tests_say}
+
+one_or_two : (b c : Bool) (v : ℤ) → (if b then Some (if c then pos 1 else pos 2) else (let o : Option ℤ = None in o)) ≡ Some v → unsigned_abs v ≤ 2 ^ 24
+one_or_two true true v h = let e : pos 1 ≡ v = ap value_in h in subst (λ (v : ℤ). unsigned_abs v ≤ 2 ^ 24) e (omega arith)
+  where
+    value_in : Option ℤ → ℤ
+    value_in (Some v) = v
+    value_in None = pos 0
+one_or_two true false v h = let e : pos 2 ≡ v = ap value_in h in subst (λ (v : ℤ). unsigned_abs v ≤ 2 ^ 24) e (omega arith)
+  where
+    value_in : Option ℤ → ℤ
+    value_in (Some v) = v
+    value_in None = pos 0
+one_or_two false c v h = cc
+
+level_is : (q : ℕ) → q < 1 → (sight.value (level_name q) ≡ number_at q levels) × (unsigned_abs (number_at q levels) ≤ slice_index_or sizes q 0)
+level_is zero h = (refl, omega arith)
+level_is (suc q) h = absurd (omega (arith, h))
+
+param_is : (p : ℕ) → p < 3 → (sight.value (slice_index_or product.head.params p []) ≡ number_at p input.params) × (unsigned_abs (number_at p input.params) ≤ 2 ^ 24)
+param_is zero h = (refl, omega arith)
+param_is (suc zero) h = (refl, omega arith)
+param_is (suc (suc zero)) h = (refl, omega arith)
+param_is (suc (suc (suc p))) h = absurd (omega (arith, h))
+
+sees : Sees product input sizes levels sight
+sees = record {
+  few = omega arith;
+  level = λ q h. (level_is q h).0;
+  level_sized = λ q h. (level_is q h).1;
+  count = refl;
+  param = λ p h. (param_is p h).0;
+  param_sized = λ p h. (param_is p h).1;
+  cell = λ a at v h. (h, one_or_two (is_inside (three at) (pos 3 ∷ pos 1 ∷ pos 1 ∷ [])) (same_name a index) v h);
+}
+
+readable : CanBeRead input nested_reads levels twice_column
+readable = record { found = refl; before = refl }
+
+pub worked_form : WorkedForm
+unfolding printing.with_summand printing.with_constant printing.printed_size
+worked_form = (refl, refl, (forms_have_values product nested_reads [] sizes 0 sight input levels sees tt twice_column printed readable refl).value)
+
+pub worked_bound : WorkedBound
+unfolding printing.with_summand printing.with_constant printing.printed_size
+worked_bound = (_, refl, ((bounds_have_values product nested_reads [] sizes 0 sight input levels sees tt eighth _ _ readable (omega (arith, ints))).0 refl).value)
+
+pub worked_test : WorkedTest
+unfolding printing.with_summand printing.with_constant printing.printed_size
+worked_test =
+    let r = tests_say product nested_reads [] sizes 0 sight input levels sees tt (record { equal = false; form = twice_column }) asked refl readable in
+    (refl, r.1 ∙ ap (λ (b : Bool). (let o : Answer Bool = Ok b in o)) (r.3 (omega (arith, ints))))

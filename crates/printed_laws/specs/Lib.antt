@@ -1,0 +1,4 @@
+pub mod Printed
+pub mod Laws
+pub mod Loops
+pub mod Examples
