@@ -1,5 +1,6 @@
 -- The worked cases, by the laws.
 use Rattle.std.proofs.Common.{◌≡◌, ℕ, zero, suc, ◌≤◌, ◌<◌, ◌^◌, [], ◌∷◌, refl, ◌∙◌, ap, subst, arith, ℤ, pos, unsigned_abs, Bool, true, false, slice_index_or, if◌then◌else◌}
+use Rattle.std.specs.List.{AllByRecursion}
 use Rattle.std.specs.Prelude.{Option, Some, None, Ok}
 use Rattle.std.proofs.lemmas.Int.{ints}
 use Rattle.c_meaning.specs.Names.{same_name}
@@ -7,12 +8,18 @@ use Rattle.c_meaning.specs.Value.{Answer, is_inside}
 use Rattle.nest_laws.specs.Acts.{three}
 use Rattle.scan_forms.specs.Numbers.{number_at}
 use Rattle.scan_forms.specs.Sums as printing
+use Rattle.scan_forms.specs.Bounds as bounds
+use Rattle.scan_forms.specs.Bounds.{bounds_of}
 use Rattle.scanning.specs.Kernels.{product, index}
 use Rattle.scanning.specs.Written.{level_name}
 use Rattle.scanning_laws.specs.Examples.{nested_reads}
 use Rattle.printed_laws.specs.Printed.{Sees, CanBeRead}
-use Rattle.printed_laws.specs.Examples.{sight, input, levels, sizes, twice_column, printed, eighth, asked, WorkedForm, WorkedBound, WorkedTest}
+use Rattle.printed_laws.specs.Seeing.{SeesOutside}
+use Rattle.printed_laws.specs.Between.{IsRow, IsBetween}
+use Rattle.printed_laws.specs.Examples.{sight, input, levels, sizes, twice_column, printed, eighth, asked, rows, scene, two_loops, WorkedForm, WorkedBound, WorkedTest, WorkedRows, WorkedLevels}
 use Rattle.printed_laws.proofs.Bounds.{forms_have_values, bounds_have_values, tests_say}
+use Rattle.printed_laws.proofs.Between.{between}
+use Rattle.printed_laws.proofs.Seeing.{loops_see}
 
 one_or_two : (b c : Bool) (v : ℤ) → (if b then Some (if c then pos 1 else pos 2) else (let o : Option ℤ = None in o)) ≡ Some v → unsigned_abs v ≤ 2 ^ 24
 one_or_two true true v h = let e : pos 1 ≡ v = ap value_in h in subst (λ (v : ℤ). unsigned_abs v ≤ 2 ^ 24) e (omega arith)
@@ -64,3 +71,24 @@ unfolding printing.with_summand printing.with_constant printing.printed_size
 worked_test =
     let r = tests_say product nested_reads [] sizes 0 sight input levels sees tt (record { equal = false; form = twice_column }) asked refl readable in
     (refl, r.1 ∙ ap (λ (b : Bool). (let o : Answer Bool = Ok b in o)) (r.3 (omega (arith, ints))))
+
+are_rows : AllByRecursion (IsRow input nested_reads levels) rows
+are_rows = (record { small = refl; levels = refl; found = refl; before = refl }, (record { small = refl; levels = refl; found = refl; before = refl }, tt))
+
+pub worked_rows : WorkedRows
+unfolding bounds.with_claim bounds.rising bounds.falling bounds.with_bound
+worked_rows =
+    let b : IsBetween input nested_reads levels (bounds_of 2 rows) (pos 2) = record { above = (omega (arith, ints), tt); below = (omega (arith, ints), tt) } in
+    (refl, refl, ((between input nested_reads levels rows are_rows).1 (pos 2)).0 b)
+
+apart_is : (p q : ℕ) → p < 3 → q < 8 → same_name (level_name q) (slice_index_or product.head.params p []) ≡ false
+apart_is zero q h k = refl
+apart_is (suc zero) q h k = refl
+apart_is (suc (suc zero)) q h k = refl
+apart_is (suc (suc (suc p))) q h k = absurd (omega (arith, h))
+
+outside : SeesOutside product input scene
+outside = record { count = refl; param = λ p h. (param_is p h).0; param_sized = λ p h. (param_is p h).1; apart = apart_is; cell = sees.cell }
+
+pub worked_levels : WorkedLevels
+worked_levels = (loops_see product input scene two_loops (pos 4 ∷ pos 7 ∷ []) outside (omega arith) refl (omega arith, (omega arith, tt)), refl, refl)

@@ -6,3 +6,5 @@ pub mod Bounds
 pub mod Sides
 pub mod Heads
 pub mod Examples
+pub mod Seeing
+pub mod Between

@@ -1,9 +1,11 @@
 //! What is printed for forms, bounds, tests and assignments: each function here carries one law, or a worked case, as its contract.
 #![tactic(auto)]
 
-ghost use Rattle.printed_laws.specs.Examples.{WorkedBound, WorkedForm, WorkedTest};
+ghost use Rattle.printed_laws.specs.Between.{RowsHoldBetweenBounds};
+ghost use Rattle.printed_laws.specs.Examples.{WorkedBound, WorkedForm, WorkedLevels, WorkedRows, WorkedTest};
 ghost use Rattle.printed_laws.specs.Laws.{PrintedAssignmentsPerform, PrintedBoundsHaveValues, PrintedFormsHaveValues, PrintedTestsSay};
 ghost use Rattle.printed_laws.specs.Loops.{PrintedHeadsHaveValues};
+ghost use Rattle.printed_laws.specs.Seeing.{LoopsSeeLevels};
 
 /// A form is printed as an expression of its value, and of a small size by its text: it has no fault.
 pub fn printed_forms_have_values()
@@ -30,6 +32,16 @@ pub fn printed_assignments_perform()
     ensures { PrintedAssignmentsPerform }
 {}
 
+/// Rows that name a level hold exactly where its value is between the bounds that they give.
+pub fn rows_hold_between_bounds()
+    ensures { RowsHoldBetweenBounds }
+{}
+
+/// Inside loops the levels' variables have their values, and all else is as outside.
+pub fn loops_see_levels()
+    ensures { LoopsSeeLevels }
+{}
+
 /// A multiple of a read in the argument of another.
 pub fn worked_form()
     ensures { WorkedForm }
@@ -43,4 +55,14 @@ pub fn worked_bound()
 /// The test that it is at least 0.
 pub fn worked_test()
     ensures { WorkedTest }
+{}
+
+/// A level between a read and half of another.
+pub fn worked_rows()
+    ensures { WorkedRows }
+{}
+
+/// Two loops.
+pub fn worked_levels()
+    ensures { WorkedLevels }
 {}
