@@ -16,15 +16,15 @@ use Rattle.scan_forms.specs.Numbers.{is_zero, are_zero}
 use Rattle.scanning_laws.specs.Valued.{form_value, values_from, only_where, founds_from, form_before, befores_from, Says, Before}
 use Rattle.scanning_laws.specs.Knowing.{AreSteady}
 
-zero_is : (z : ℤ) → is_zero z ≡ true → z ≡ pos 0
+pub zero_is : (z : ℤ) → is_zero z ≡ true → z ≡ pos 0
 zero_is z h = (Decides-int_eq z (pos 0)).0 h
 
-dot-nothing : (zs : List ℤ) → dot zs [] ≡ pos 0
+pub dot-nothing : (zs : List ℤ) → dot zs [] ≡ pos 0
 dot-nothing [] = refl
 dot-nothing (z ∷ zs) = refl
 
 -- ---- lists of which marked places are the same
-abbrev SameWhere : {A : Type 0} → List Bool → List A → List A → Type 0
+abbrev pub SameWhere : {A : Type 0} → List Bool → List A → List A → Type 0
 SameWhere [] [] [] = Unit
 SameWhere [] [] (w ∷ ws) = ⊥
 SameWhere [] (v ∷ vs) ws = ⊥
@@ -44,7 +44,7 @@ or_left : (b c : Bool) → b ≡ false → (b || c) ≡ true → c ≡ true
 or_left true c e h = cc
 or_left false c e h = h
 
-dot-where : (bs : List Bool) (zs vs ws : List ℤ) → only_where bs zs ≡ true → SameWhere bs vs ws → dot zs vs ≡ dot zs ws
+pub dot-where : (bs : List Bool) (zs vs ws : List ℤ) → only_where bs zs ≡ true → SameWhere bs vs ws → dot zs vs ≡ dot zs ws
 dot-where [] zs [] [] h s = refl
 dot-where [] zs [] (w ∷ ws) h s = absurd s
 dot-where [] zs (v ∷ vs) ws h s = absurd s
@@ -94,13 +94,13 @@ module _ (i : Input) (e : Levels) (v : ℤ) where
       let p = and_parts (form_before (length e) bs f) (list_all (form_before (length e) bs) fs) h in
       ap (λ (x : ℤ). x ∷ map (form_value i e vs) fs) (form-same bs vs ws f p.0 s) ∙ ap (λ (l : List ℤ). form_value i (e ++ v ∷ []) ws f ∷ l) (forms-same bs vs ws fs p.1 s)
 
-  values-same : (table : List Read) (bs : List Bool) (vs ws : List ℤ) → SameWhere bs vs ws → SameWhere (befores_from (length e) bs table) (values_from i e vs table) (values_from i (e ++ v ∷ []) ws table)
+  pub values-same : (table : List Read) (bs : List Bool) (vs ws : List ℤ) → SameWhere bs vs ws → SameWhere (befores_from (length e) bs table) (values_from i e vs table) (values_from i (e ++ v ∷ []) ws table)
   values-same [] bs vs ws s = s
   values-same (r ∷ more) bs vs ws s =
       values-same more (bs ++ list_all (form_before (length e) bs) r.at ∷ []) (vs ++ or_zero (i.cells r.array (map (form_value i e vs) r.at)) ∷ []) (ws ++ or_zero (i.cells r.array (map (form_value i (e ++ v ∷ []) ws) r.at)) ∷ [])
       (same-end bs vs ws _ _ _ s (λ h. ap (λ (l : List ℤ). or_zero (i.cells r.array l)) (forms-same bs vs ws r.at h s)))
 
-  where-same : (bs : List Bool) (zs : List ℤ) (fs gs : List Bool) → only_where bs zs ≡ true → SameWhere bs fs gs → only_where fs zs ≡ only_where gs zs
+  pub where-same : (bs : List Bool) (zs : List ℤ) (fs gs : List Bool) → only_where bs zs ≡ true → SameWhere bs fs gs → only_where fs zs ≡ only_where gs zs
   where-same [] zs [] [] h s = refl
   where-same [] zs [] (g ∷ gs) h s = absurd s
   where-same [] zs (f ∷ fs) gs h s = absurd s
@@ -124,7 +124,7 @@ module _ (i : Input) (e : Levels) (v : ℤ) where
       let q = and_parts (are_zero (drop (length e) f.levels)) (only_where bs f.reads) p.0 in
       ap (λ (x : Bool). x && list_all (λ f. only_where fs f.reads) at) (where-same bs f.reads fs gs q.1 s) ∙ ap (λ (x : Bool). only_where gs f.reads && x) (all-where bs fs gs at p.1 s)
 
-  founds-same : (table : List Read) (bs : List Bool) (vs ws : List ℤ) (fs gs : List Bool) → SameWhere bs vs ws → SameWhere bs fs gs
+  pub founds-same : (table : List Read) (bs : List Bool) (vs ws : List ℤ) (fs gs : List Bool) → SameWhere bs vs ws → SameWhere bs fs gs
       → SameWhere (befores_from (length e) bs table) (founds_from i e vs fs table) (founds_from i (e ++ v ∷ []) ws gs table)
   founds-same [] bs vs ws fs gs s t = t
   founds-same (r ∷ more) bs vs ws fs gs s t =

@@ -1,0 +1,10 @@
+pub mod Sums
+pub mod Parts
+pub mod Forms
+pub mod Cells
+pub mod Bounds
+pub mod Sides
+pub mod Heads
+pub mod Examples
+pub mod Seeing
+pub mod Between

@@ -1,0 +1,6 @@
+pub mod Printed
+pub mod Laws
+pub mod Loops
+pub mod Examples
+pub mod Seeing
+pub mod Between
