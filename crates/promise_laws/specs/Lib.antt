@@ -1,0 +1,3 @@
+pub mod Prescribed
+pub mod Moved
+pub mod Levels
