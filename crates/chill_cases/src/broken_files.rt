@@ -22,44 +22,17 @@ const EMITTED: [Wanted; 4] = [
     ((EMIT, "shift", COPY), [3, 0], 1, "chill: recipe line 1\n"),
 ];
 
-const RUNS: [Wanted; 4] = [
-    ((RUN, FIVES, TWO), [3, 3], 0, ""),
+/// Runs and traces alike: the program and its data, and the same as above.
+const RUNS: [([&str; 2], [u64; 2], u8, &str); 4] = [
+    ([FIVES, TWO], [3, 3], 0, ""),
     (
-        (RUN, FIVES, THREE),
+        [FIVES, THREE],
         [3, 3],
         1,
         "chill: executor 0.2.0: outside y\n",
     ),
-    (
-        (RUN, FIVES, "n x\ny 1 2\n"),
-        [3, 3],
-        1,
-        "chill: data: line 1\n",
-    ),
-    ((RUN, "void", TWO), [3, 0], 1, "chill: syntax at token 2\n"),
-];
-
-const TRACES: [Wanted; 5] = [
-    ((TRACE, FIVES, TWO), [3, 3], 0, ""),
-    (
-        (TRACE, FIVES, THREE),
-        [3, 3],
-        1,
-        "chill: executor 0.2.0: outside y\n",
-    ),
-    (
-        (TRACE, FIVES, "n x\ny 1 2\n"),
-        [3, 3],
-        1,
-        "chill: data: line 1\n",
-    ),
-    (
-        (TRACE, "void", TWO),
-        [3, 0],
-        1,
-        "chill: syntax at token 2\n",
-    ),
-    ((WORK, "", ""), [0, 0], 0, ""),
+    ([FIVES, "n x\ny 1 2\n"], [3, 3], 1, "chill: data: line 1\n"),
+    (["void", TWO], [3, 0], 1, "chill: syntax at token 2\n"),
 ];
 
 // Where the call of the files with this number fails, nothing but this line is written.
@@ -98,10 +71,13 @@ fn hold(rt: &impl Abort, alloc: Global, wanted: &Wanted) -> Result<(), Fail> {
 
 #[test]
 fn each_call_of_the_files_fails(rt: HostRuntime) -> Result<(), Fail> {
-    for table in [EMITTED.as_slice(), RUNS.as_slice(), TRACES.as_slice()] {
-        for wanted in table {
-            hold(&rt, rt.alloc(), wanted)?;
-        }
+    let alloc = rt.alloc();
+    for wanted in &EMITTED {
+        hold(&rt, alloc, wanted)?;
     }
-    Ok(())
+    for &([first, second], calls, status, line) in &RUNS {
+        hold(&rt, alloc, &((RUN, first, second), calls, status, line))?;
+        hold(&rt, alloc, &((TRACE, first, second), calls, status, line))?;
+    }
+    hold(&rt, alloc, &((WORK, "", ""), [0, 0], 0, ""))
 }
