@@ -63,7 +63,7 @@ in-at x (y ∷ xs) (inl e) = (0, e)
 in-at x (y ∷ xs) (inr h) = let r = in-at x xs h in (suc r.0, r.1)
 
 -- ---- the cells of a statement
-reads_at : (b : Body) (d : Body-F Body) → out-Body b ≡ d → reads b ≡ reads_layer (map-Body Body (List Access) reads d)
+pub reads_at : (b : Body) (d : Body-F Body) → out-Body b ≡ d → reads b ≡ reads_layer (map-Body Body (List Access) reads d)
 unfolding reads
 reads_at b d h = fold_out-Body (List Access) reads_layer b ∙ ap (λ d. reads_layer (map-Body Body (List Access) reads d)) h
 
@@ -117,7 +117,7 @@ numbered n m _ _ (read_target a r e) =
 numbered n m _ _ (targets e c) =
     record { first = 0; second = 0; first_at = refl; second_at = refl; conflicts = rw (same-compound n.how, same-compound m.how, c, one-array n.target m.target e) refl }
 
-at-in : {A : Type 0} (xs : List A) (t : ℕ) (x : A) → IsAt t x xs → IsIn x xs
+pub at-in : {A : Type 0} (xs : List A) (t : ℕ) (x : A) → IsAt t x xs → IsIn x xs
 at-in [] t x h = absurd h
 at-in (y ∷ xs) zero x h = inl h
 at-in (y ∷ xs) (suc t) x h = inr (at-in xs t x h)

@@ -3,3 +3,4 @@ mod Pairs
 mod Cells
 mod Candidates
 mod Levels
+mod Changes

@@ -1,3 +1,4 @@
 pub mod Pairs
 pub mod Candidates
 pub mod Levels
+pub mod Changes

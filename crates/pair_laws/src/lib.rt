@@ -4,6 +4,7 @@
 ghost use Rattle.pair_laws.specs.Pairs.{PairIsMet, SubscriptsAreMet, OrdersAreMet};
 ghost use Rattle.pair_laws.specs.Candidates.{ExcludedHasNoInstances};
 ghost use Rattle.pair_laws.specs.Levels.{LevelHasNoDependence};
+ghost use Rattle.pair_laws.specs.Changes.{NoneOpenNoneChanges, TestKeepsEffect};
 
 /// The rows of a pair's system that speak of no order are met at points of both statements.
 pub fn pair_is_met()
@@ -28,4 +29,14 @@ pub fn excluded_has_no_instances()
 /// Where no candidate of a level is open, no two instances that differ first there name one cell by conflicting accesses.
 pub fn level_has_no_dependence()
     ensures { LevelHasNoDependence }
+{}
+
+/// Where the test of a command finds no dependence, no two conflicting instances change their order.
+pub fn none_open_none_changes()
+    ensures { NoneOpenNoneChanges }
+{}
+
+/// Where the test of a command finds no dependence, the effect on all arrays stays.
+pub fn test_keeps_effect()
+    ensures { TestKeepsEffect }
 {}

@@ -9,3 +9,4 @@ pub mod Seating
 pub mod Readings
 pub mod Sides
 pub mod Own
+mod Worked

@@ -6,3 +6,4 @@ pub mod Ranges
 pub mod Values
 pub mod Begun
 pub mod Own
+pub mod Examples

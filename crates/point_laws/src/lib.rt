@@ -8,6 +8,7 @@ ghost use Rattle.point_laws.specs.Placed.{PlacedFormHasValue, PlacedRowsAreMet};
 ghost use Rattle.point_laws.specs.Values.{ValueRowsAreMet};
 ghost use Rattle.point_laws.specs.Begun.{BegunRowsAreMet};
 ghost use Rattle.point_laws.specs.Own.{OwnIsMet};
+ghost use Rattle.point_laws.specs.Examples.{NothingMadeHasNoCounts, SparseSystem};
 
 /// A form in its seats is the form with each variable replaced by its seat.
 pub fn placed_is_replaced()
@@ -47,4 +48,14 @@ pub fn begun_rows_are_met()
 /// All rows of a statement's own system are met where the statement has a point, on each input whose arrays keep their ranges.
 pub fn own_is_met()
     ensures { OwnIsMet }
+{}
+
+/// Where no array is made, no value range speaks of a cell `count[0]`.
+pub fn nothing_made_has_no_counts()
+    ensures { NothingMadeHasNoCounts }
+{}
+
+/// The system of a loop over the entries of a matrix, at one of its points.
+pub fn sparse_system()
+    ensures { SparseSystem }
 {}

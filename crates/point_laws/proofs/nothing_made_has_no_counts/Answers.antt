@@ -1,0 +1,5 @@
+use Rattle.point_laws.proofs.Worked.{no_counts}
+use Rattle.point_laws.proofs.nothing_made_has_no_counts.Goals as goal
+
+pub returns : goal.returns
+returns c = no_counts
