@@ -5,3 +5,4 @@ pub mod Arrays
 pub mod Cells
 pub mod Matrices
 pub mod Laws
+pub mod Examples

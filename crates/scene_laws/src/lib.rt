@@ -1,6 +1,7 @@
 //! What the rules and a valid input give to acceptance: each function here carries one law as its contract.
 #![tactic(auto)]
 
+ghost use Rattle.scene_laws.specs.Examples.{WorkedScene};
 ghost use Rattle.scene_laws.specs.Inputs.{RulesNameCells, ValidInputIsScene, AcceptedIsFineOnInputs};
 ghost use Rattle.scene_laws.specs.Rules.{RulesScopeNames};
 
@@ -22,4 +23,9 @@ pub fn valid_input_is_scene()
 /// Nothing in an accepted executor has a fault on a valid input, wherever its systems are met at points.
 pub fn accepted_is_fine_on_inputs()
     ensures { AcceptedIsFineOnInputs }
+{}
+
+/// A source with a matrix, on a matrix of one row.
+pub fn worked_scene()
+    ensures { WorkedScene }
 {}
