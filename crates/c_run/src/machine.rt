@@ -85,6 +85,7 @@ impl<'a> Machine<'a> {
         ensures refused { (fault : RunFault) → result ≡ Err (Stop.Refused fault) → self.new.stage ≡ Stage.Refused fault }
         ensures no_memory { result ≡ Err Stop.NoMemory → self.new.stage ≡ Stage.NoMemory }
         ensures stays { (fault : RunFault) → self.old.stage ≡ Stage.Refused fault → result ≡ Err (Stop.Refused fault) }
+        ensures starves { self.old.stage ≡ Stage.NoMemory → result ≡ Err Stop.NoMemory }
         ensures program { self.new.program ≡ self.old.program }
         ensures values { (state_of_machine self.new).sight.value ≡ (state_of_machine self.old).sight.value }
         ensures scope { self.old.stage ≡ Stage.Prepared → result ≡ Ok tt → (state_of_machine self.new).scope ≡ scope_behind self.old.program.now.inspector (state_of_machine self.old).scope }
