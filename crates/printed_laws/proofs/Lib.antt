@@ -8,3 +8,4 @@ pub mod Heads
 pub mod Examples
 pub mod Seeing
 pub mod Between
+pub mod Opened
