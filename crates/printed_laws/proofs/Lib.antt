@@ -9,3 +9,4 @@ pub mod Examples
 pub mod Seeing
 pub mod Between
 pub mod Opened
+pub mod Orders

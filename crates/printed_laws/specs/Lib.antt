@@ -5,3 +5,4 @@ pub mod Examples
 pub mod Seeing
 pub mod Between
 pub mod Opened
+pub mod Orders

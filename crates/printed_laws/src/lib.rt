@@ -6,6 +6,7 @@ ghost use Rattle.printed_laws.specs.Examples.{WorkedBound, WorkedForm, WorkedLev
 ghost use Rattle.printed_laws.specs.Laws.{PrintedAssignmentsPerform, PrintedBoundsHaveValues, PrintedFormsHaveValues, PrintedTestsSay};
 ghost use Rattle.printed_laws.specs.Loops.{PrintedHeadsHaveValues};
 ghost use Rattle.printed_laws.specs.Opened.{OpenedLoopsDo};
+ghost use Rattle.printed_laws.specs.Orders.{OrdersAreDistinct, WorkedOrder};
 ghost use Rattle.printed_laws.specs.Seeing.{LoopsSeeLevels};
 
 /// A form is printed as an expression of its value, and of a small size by its text: it has no fault.
@@ -48,6 +49,11 @@ pub fn opened_loops_do()
     ensures { OpenedLoopsDo }
 {}
 
+/// The orders in which reads are printed name none twice.
+pub fn orders_are_distinct()
+    ensures { OrdersAreDistinct }
+{}
+
 /// A multiple of a read in the argument of another.
 pub fn worked_form()
     ensures { WorkedForm }
@@ -76,4 +82,9 @@ pub fn worked_levels()
 /// A statement that is bounded by these rows.
 pub fn worked_sides()
     ensures { WorkedSides }
+{}
+
+/// A number that is there already.
+pub fn worked_order()
+    ensures { WorkedOrder }
 {}
