@@ -36,7 +36,7 @@ unsaturated : (z : ℤ) → unsigned_abs z ≤ 2 ^ 126 → saturate_signed w128 
 unsaturated (pos n) h = ap pos (omega (arith, h))
 unsaturated (negsuc n) h = ap negsuc (omega (arith, h))
 
-opposite_is : (z : ℤ) → is_small z ≡ true → opposite z ≡ neg_ℤ z
+pub opposite_is : (z : ℤ) → is_small z ≡ true → opposite z ≡ neg_ℤ z
 opposite_is z h =
     let l = small_within (unsigned_abs z) h in
     let e : pos 0 -ℤ z ≡ neg_ℤ z = omega (arith, ints) in
@@ -134,7 +134,7 @@ has-all P x s (b ∷ bs) h a = elim (cases_Bool (same_bound b x)) [
   | inr f ↦ has-all P x s bs (ap (λ (t : Bool). t || has_bound bs x) (sym f) ∙ h) a.1
 ]
 
-with-all : (P : Bound → Type 0) (f : Affine) (d : ℤ) (bs : List Bound) → AllByRecursion P bs → P (bound_of f d) → AllByRecursion P (with_bound f d bs)
+pub with-all : (P : Bound → Type 0) (f : Affine) (d : ℤ) (bs : List Bound) → AllByRecursion P bs → P (bound_of f d) → AllByRecursion P (with_bound f d bs)
 unfolding with_bound
 with-all P f d bs h p = by_new (has_bound bs (bound_of f d))
   where
@@ -142,7 +142,7 @@ with-all P f d bs h p = by_new (has_bound bs (bound_of f d))
     by_new true = h
     by_new false = all-end P bs (bound_of f d) h p
 
-all-with : (P : Bound → Type 0) (f : Affine) (d : ℤ) → ((y : Bound) → same_bound y (bound_of f d) ≡ true → P y → P (bound_of f d)) → (bs : List Bound) → AllByRecursion P (with_bound f d bs) → AllByRecursion P bs × P (bound_of f d)
+pub all-with : (P : Bound → Type 0) (f : Affine) (d : ℤ) → ((y : Bound) → same_bound y (bound_of f d) ≡ true → P y → P (bound_of f d)) → (bs : List Bound) → AllByRecursion P (with_bound f d bs) → AllByRecursion P bs × P (bound_of f d)
 unfolding with_bound
 all-with P f d s bs = by_new (has_bound bs (bound_of f d)) (λ e. e)
   where
@@ -151,7 +151,7 @@ all-with P f d s bs = by_new (has_bound bs (bound_of f d)) (λ e. e)
     by_new false e a = end-all P bs (bound_of f d) a
 
 -- ---- a row and its bound
-above_zero : (d : ℕ) → lt_z (pos 0) (pos (suc d)) ≡ true
+pub above_zero : (d : ℕ) → lt_z (pos 0) (pos (suc d)) ≡ true
 above_zero d = grind (arith, tests)
 
 low-row : (d : ℕ) (v r : ℤ) → (pos 0 ≤ℤ ((pos (suc d) *ℤ v) +ℤ r) → low_value (neg_ℤ r) (pos (suc d)) ≤ℤ v) × (low_value (neg_ℤ r) (pos (suc d)) ≤ℤ v → pos 0 ≤ℤ ((pos (suc d) *ℤ v) +ℤ r))

@@ -16,7 +16,7 @@ use Rattle.scanning_laws.specs.Examples.{nested_reads}
 use Rattle.printed_laws.specs.Printed.{Sees, CanBeRead}
 use Rattle.printed_laws.specs.Seeing.{SeesOutside}
 use Rattle.printed_laws.specs.Between.{IsRow, IsBetween}
-use Rattle.printed_laws.specs.Examples.{sight, input, levels, sizes, twice_column, printed, eighth, asked, rows, scene, two_loops, WorkedForm, WorkedBound, WorkedTest, WorkedRows, WorkedLevels}
+use Rattle.printed_laws.specs.Examples.{sight, input, levels, sizes, twice_column, printed, eighth, asked, rows, scene, two_loops, WorkedForm, WorkedBound, WorkedTest, WorkedRows, WorkedLevels, WorkedSides}
 use Rattle.printed_laws.proofs.Bounds.{forms_have_values, bounds_have_values, tests_say}
 use Rattle.printed_laws.proofs.Between.{between}
 use Rattle.printed_laws.proofs.Seeing.{loops_see}
@@ -92,3 +92,16 @@ outside = record { count = refl; param = λ p h. (param_is p h).0; param_sized =
 
 pub worked_levels : WorkedLevels
 worked_levels = (loops_see product input scene two_loops (pos 4 ∷ pos 7 ∷ []) outside (omega arith) refl (omega arith, (omega arith, tt)), refl, refl)
+
+pub worked_sides : WorkedSides
+unfolding bounds.with_claim bounds.rising bounds.falling bounds.with_bound
+worked_sides = (
+  record {
+    order = (refl, (refl, tt));
+    some_lower = λ h. cc;
+    some_upper = λ h. cc;
+    rows = (record { named = λ h. omega (arith, ints, h); small = refl; levels = refl; before = refl; fits = omega arith }, (record { named = λ h. omega (arith, ints, h); small = refl; levels = refl; before = refl; fits = omega arith }, tt));
+  },
+  refl,
+  refl,
+)

@@ -75,7 +75,7 @@ all-any : (P : ℕ → Type 0) → ((i : ℕ) → P i) → (is : List ℕ) → A
 all-any P f [] = tt
 all-any P f (i ∷ is) = (f i, all-any P f is)
 
-held_or_not : (n : ℤ) → (n ≡ pos 0) ⊎ (n ≡ pos 0 → ⊥)
+pub held_or_not : (n : ℤ) → (n ≡ pos 0) ⊎ (n ≡ pos 0 → ⊥)
 held_or_not (pos zero) = inl refl
 held_or_not (pos (suc n)) = inr (λ e. omega (arith, ints, e))
 held_or_not (negsuc n) = inr (λ e. omega (arith, ints, e))

@@ -8,3 +8,5 @@ pub mod Heads
 pub mod Examples
 pub mod Seeing
 pub mod Between
+pub mod Opened
+pub mod Orders

@@ -15,6 +15,7 @@ use Rattle.scan_forms.specs.declared.affine.Affine.{Affine}
 use Rattle.scan_forms.specs.declared.bounds.Bound.{Bound}
 use Rattle.scan_forms.specs.declared.claim.Claim.{Claim}
 use Rattle.scan_forms.specs.Bounds.{bounds_of}
+use Rattle.loop_scan.specs.declared.sides.Sides.{Sides}
 use Rattle.scanning.specs.Kernels.{product, index, col, t1, t2, m, cell}
 use Rattle.scanning.specs.Parts.{Opened, sizes_of}
 use Rattle.scanning.specs.Sizes.{Sizes}
@@ -23,7 +24,8 @@ use Rattle.scanning_laws.specs.Examples.{nested_reads}
 use Rattle.scanning_laws.specs.Derived.{seen_in}
 use Rattle.printed_laws.specs.Printed.{Sees}
 use Rattle.printed_laws.specs.Laws.{worth}
-use Rattle.printed_laws.specs.Loops.{low_of, high_of}
+use Rattle.printed_laws.specs.Loops.{low_of, high_of, own_low, own_high}
+use Rattle.printed_laws.specs.Opened.{AreSides}
 use Rattle.printed_laws.specs.Between.{HoldsWith}
 
 -- t1 is 1, and each parameter 2; index and col have 3 cells, those of index hold 1 and those of col 2
@@ -94,3 +96,10 @@ abbrev pub WorkedLevels : Type 0
 WorkedLevels =
     Sees product input (sizes_of two_loops) (pos 4 ∷ pos 7 ∷ []) (seen_in scene two_loops (pos 4 ∷ pos 7 ∷ []))
     × ((seen_in scene two_loops (pos 4 ∷ pos 7 ∷ [])).value t2 ≡ pos 7) × ((seen_in scene two_loops (pos 4 ∷ pos 7 ∷ [])).value m ≡ pos 2)
+
+-- ---- a statement that is bounded by these rows: from 1 to below 3
+abbrev pub sides : Sides
+sides = record { used = rows; order = 0 ∷ 1 ∷ []; bounds = bounds_of 2 rows }
+
+abbrev pub WorkedSides : Type 0
+WorkedSides = AreSides input nested_reads levels sides × (own_low input nested_reads levels sides ≡ pos 1) × (own_high input nested_reads levels sides ≡ pos 3)

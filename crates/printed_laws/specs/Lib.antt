@@ -4,3 +4,5 @@ pub mod Loops
 pub mod Examples
 pub mod Seeing
 pub mod Between
+pub mod Opened
+pub mod Orders

@@ -2,9 +2,11 @@
 #![tactic(auto)]
 
 ghost use Rattle.printed_laws.specs.Between.{RowsHoldBetweenBounds};
-ghost use Rattle.printed_laws.specs.Examples.{WorkedBound, WorkedForm, WorkedLevels, WorkedRows, WorkedTest};
+ghost use Rattle.printed_laws.specs.Examples.{WorkedBound, WorkedForm, WorkedLevels, WorkedRows, WorkedSides, WorkedTest};
 ghost use Rattle.printed_laws.specs.Laws.{PrintedAssignmentsPerform, PrintedBoundsHaveValues, PrintedFormsHaveValues, PrintedTestsSay};
 ghost use Rattle.printed_laws.specs.Loops.{PrintedHeadsHaveValues};
+ghost use Rattle.printed_laws.specs.Opened.{OpenedLoopsDo};
+ghost use Rattle.printed_laws.specs.Orders.{OrdersAreDistinct, WorkedOrder};
 ghost use Rattle.printed_laws.specs.Seeing.{LoopsSeeLevels};
 
 /// A form is printed as an expression of its value, and of a small size by its text: it has no fault.
@@ -42,6 +44,16 @@ pub fn loops_see_levels()
     ensures { LoopsSeeLevels }
 {}
 
+/// A loop's tests have an answer; where it is true, its bounds have their values, and its rows are said in each turn.
+pub fn opened_loops_do()
+    ensures { OpenedLoopsDo }
+{}
+
+/// The orders in which reads are printed name none twice.
+pub fn orders_are_distinct()
+    ensures { OrdersAreDistinct }
+{}
+
 /// A multiple of a read in the argument of another.
 pub fn worked_form()
     ensures { WorkedForm }
@@ -65,4 +77,14 @@ pub fn worked_rows()
 /// Two loops.
 pub fn worked_levels()
     ensures { WorkedLevels }
+{}
+
+/// A statement that is bounded by these rows.
+pub fn worked_sides()
+    ensures { WorkedSides }
+{}
+
+/// A number that is there already.
+pub fn worked_order()
+    ensures { WorkedOrder }
 {}
