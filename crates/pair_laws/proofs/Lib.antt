@@ -4,3 +4,4 @@ mod Cells
 mod Candidates
 mod Levels
 mod Changes
+mod Worked

@@ -2,3 +2,4 @@ pub mod Pairs
 pub mod Candidates
 pub mod Levels
 pub mod Changes
+pub mod Examples
