@@ -5,3 +5,4 @@ mod Candidates
 mod Levels
 mod Changes
 mod Worked
+mod Shifted

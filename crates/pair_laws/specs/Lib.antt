@@ -3,3 +3,4 @@ pub mod Candidates
 pub mod Levels
 pub mod Changes
 pub mod Examples
+pub mod Shifted

@@ -6,6 +6,7 @@ ghost use Rattle.pair_laws.specs.Candidates.{ExcludedHasNoInstances};
 ghost use Rattle.pair_laws.specs.Levels.{LevelHasNoDependence};
 ghost use Rattle.pair_laws.specs.Changes.{NoneOpenNoneChanges, TestKeepsEffect};
 ghost use Rattle.pair_laws.specs.Examples.{SettingLoop};
+ghost use Rattle.pair_laws.specs.Shifted.{ShiftedLoop};
 
 /// The rows of a pair's system that speak of no order are met at points of both statements.
 pub fn pair_is_met()
@@ -45,4 +46,9 @@ pub fn test_keeps_effect()
 /// The test of the level of a loop that sets an array.
 pub fn setting_loop()
     ensures { SettingLoop }
+{}
+
+/// The test of a loop that is shifted, and the order that it keeps.
+pub fn shifted_loop()
+    ensures { ShiftedLoop }
 {}
