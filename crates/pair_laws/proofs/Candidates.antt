@@ -19,7 +19,7 @@ use Rattle.depend_test.specs.Candidates.{Candidate, IsDecided, whole, alone}
 use Rattle.depend_test.specs.Orders.{order_rows}
 use Rattle.depend_test.specs.Systems.{SameCell, cell_system, with_orders, HasExcluded}
 use Rattle.pair_laws.specs.Pairs.{IsSideAt, StandBefore, pair_point}
-use Rattle.pair_laws.specs.Candidates.{IsSmallCandidate, ExcludedHasNoInstances}
+use Rattle.pair_laws.specs.Candidates.{IsSmallDecision, ExcludedHasNoInstances}
 use Rattle.pair_laws.proofs.Pairs.{old-met, new-met}
 use Rattle.pair_laws.proofs.Cells.{meets-once, at, equal-rows-met, cell-met}
 
@@ -35,7 +35,7 @@ none_alone vars q rows m h =
     let met : MeetsRow q h.1 = subst (MeetsRow q) h.3 (row-met q rows h.0 h.1 m h.2 h.3) in
     excluded_has_no_point vars (h.1 ∷ []) q h.4 (meets-once q (h.1 ∷ []) (met, tt))
 
-module _ (k : Kernel) (i : Input) (n m : Nest) (fs gs : List Aff) (c : Candidate) (vs us : List ℤ) (ranged : IsRanged k.head k.made i) (counts : HasNoCounts k.head k.made) (small : IsSmallCandidate k c)
+module _ (k : Kernel) (i : Input) (n m : Nest) (fs gs : List Aff) (c : Candidate) (vs us : List ℤ) (ranged : IsRanged k.head k.made i) (counts : HasNoCounts k.head k.made)
     (first : IsSideAt k i n fs c.one vs) (second : IsSideAt k i m gs c.other us) (x : IsIn c.first (cells n)) (y : IsIn c.second (cells m)) (same : map (value (point i n vs)) c.first.at ≡ map (value (point i m us)) c.second.at)
     (old : StandBefore c.carried.old c.orders.old_shared (map (value (point i n vs)) fs) (map (value (point i m us)) gs)) (new : StandBefore c.carried.new c.orders.new_shared us vs) where
   abbrev q : List ℤ
@@ -51,26 +51,27 @@ module _ (k : Kernel) (i : Input) (n m : Nest) (fs gs : List Aff) (c : Candidate
     abbrev new_rows : List Row
     new_rows = order_rows vars c.carried.new c.orders.new_shared w.pair.second_new w.pair.first_new
 
-    parts : AreSmall vars (cell_system w).rows × AreSmall vars old_rows × AreSmall vars new_rows
-    parts =
-        let a = small-append vars ((cell_system w).rows ++ old_rows) new_rows (small w) in
+    parts : AreSmall vars (with_orders (cell_system w) w.pair c.orders c.carried).rows → AreSmall vars (cell_system w).rows × AreSmall vars old_rows × AreSmall vars new_rows
+    parts small =
+        let a = small-append vars ((cell_system w).rows ++ old_rows) new_rows small in
         let b = small-append vars (cell_system w).rows old_rows a.0 in
         (b.0, b.1, a.1)
 
-    equal-met : Meets q w.equal
-    equal-met = equal-rows-met k i n m fs gs c.one c.other vs us ranged counts first second c.first c.second w x y same (small-append vars w.pair.system.rows w.equal parts.0).1
+    equal-met : AreSmall vars w.equal → Meets q w.equal
+    equal-met = equal-rows-met k i n m fs gs c.one c.other vs us ranged counts first second c.first c.second w x y same
 
-    all-met : Meets q ((with_orders (cell_system w) w.pair c.orders c.carried).rows)
-    all-met =
+    all-met : AreSmall vars (with_orders (cell_system w) w.pair c.orders c.carried).rows → Meets q ((with_orders (cell_system w) w.pair c.orders c.carried).rows)
+    all-met small =
+        let parts = parts small in
         let there = at k i n m fs gs c.one c.other vs us ranged counts first second c.first c.second w in
         meets-append q ((cell_system w).rows ++ old_rows) new_rows
         (meets-append q (cell_system w).rows old_rows (cell-met k i n m fs gs c.one c.other vs us ranged counts first second c.first c.second w x y same parts.0)
         (old-met k i n m fs gs c.one c.other w.pair vs us there c.carried.old c.orders.old_shared old parts.1))
         (new-met k i n m fs gs c.one c.other w.pair vs us there c.carried.new c.orders.new_shared new parts.2)
 
-  excluded-none : (b : Bool) → b ≡ true → IsDecided k c b → ⊥
-  excluded-none b e (whole _ w d) = no_point (with_orders (cell_system w) w.pair c.orders c.carried) q (d ∙ ap Ok e) (meets-once q ((with_orders (cell_system w) w.pair c.orders c.carried).rows) (all-met w))
-  excluded-none b e (alone w h) = none_alone w.pair.first.vars q w.equal (equal-met w) h
+  excluded-none : (b : Bool) → b ≡ true → (d : IsDecided k c b) → IsSmallDecision k c b d → ⊥
+  excluded-none _ e (whole b w d) small = no_point (with_orders (cell_system w) w.pair c.orders c.carried) q (d ∙ ap Ok e) (meets-once q ((with_orders (cell_system w) w.pair c.orders c.carried).rows) (all-met w small))
+  excluded-none _ e (alone w h) small = none_alone w.pair.first.vars q w.equal (equal-met w small) h
 
 pub no_instances : ExcludedHasNoInstances
-no_instances k i n m fs gs c vs us ranged counts decided small first second x y same old new = excluded-none k i n m fs gs c vs us ranged counts small first second x y same old new true refl decided
+no_instances k i n m fs gs c vs us ranged counts decided first second x y same old new = excluded-none k i n m fs gs c vs us ranged counts first second x y same old new true refl decided.0 decided.1

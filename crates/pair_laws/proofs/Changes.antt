@@ -23,13 +23,14 @@ use Rattle.nest_laws.proofs.Lists.{in_append-left, in_append-right, pair_at-seco
 use Rattle.nest_systems.specs.Cells.{reads, cells}
 use Rattle.move_laws.proofs.Unchanged.{unchanged}
 use Rattle.point_laws.proofs.Readings.{at-got}
-use Rattle.depend_test.specs.Candidates.{Candidate, IsDecided, Between, IsDecidedBetween, dependence, between, with_both, carried_each, orders_between, of_accesses, of_pieces, of_piece, of_numbers, of_conflict, of_access, of_cell, of_statements, of_other, of_statement, candidates}
+use Rattle.depend_test.specs.Candidates.{Candidate, Between, dependence, between, with_both, carried_each, orders_between, of_accesses, of_pieces, of_piece, of_numbers, of_conflict, of_access, of_cell, of_statements, of_other, of_statement, candidates}
 use Rattle.depend_test.specs.Conflicts.{is_compound, conflict}
 use Rattle.depend_test.specs.Orders.{from_one, carriers}
 use Rattle.depend_test.specs.declared.first.Carried.{Carried}
 use Rattle.depend_test.specs.declared.side.Moved.{Moved}
 use Rattle.pair_laws.specs.Pairs.{StandBefore}
-use Rattle.pair_laws.specs.Changes.{IsTestedMove, NoneOpenNoneChanges, TestKeepsEffect}
+use Rattle.pair_laws.specs.Candidates.{IsSmallDecided}
+use Rattle.pair_laws.specs.Changes.{IsTestedMove, IsSmallDecidedBetween, NoneOpenNoneChanges, TestKeepsEffect}
 use Rattle.pair_laws.proofs.Candidates.{no_instances}
 use Rattle.pair_laws.proofs.Levels.{all-excluded, in-all, reads_at, numbered, at-in}
 
@@ -145,7 +146,7 @@ applies_or_not false true = inl refl
 applies_or_not false false = inr (refl, refl)
 
 pub none_changes : NoneOpenNoneChanges
-none_changes k i applies all moves ranged counts tested first small others m x a b vs ws us zs c d in_m in_x clash pm px gm gx equal old new =
+none_changes k i applies all moves ranged counts tested first others m x a b vs ws us zs c d in_m in_x clash pm px gm gx equal old new =
     let s = tested m in_m in
     let t = tested x in_x in
     elim (applies_or_not (applies m) (applies x)) [
@@ -169,13 +170,13 @@ none_changes k i applies all moves ranged counts tested first small others m x a
           (subst (IsAt r.first a) (sym one.side.accesses) r.first_at) (subst (IsAt r.second b) (sym two.side.accesses) r.second_at)
           (subst (IsAt r.first e.0) (sym s.by.accesses) e.1) (subst (IsAt r.second f.0) (sym t.by.accesses) f.1) conflicts applied old_in new_in in
           let v : Between = between s.number t.number e.0 z in
-          let decided : IsDecided k z true = all-excluded (IsDecidedBetween k) dependence (candidates all) None refl first v there in
+          let decided : IsSmallDecided k z true = all-excluded (IsSmallDecidedBetween k) dependence (candidates all) None refl first v there in
           let before : StandBefore o.0 (shared (s.moved).positions (t.moved).positions) (map (value (point i m.new ws)) (m.piece).old) (map (value (point i x.new zs)) (x.piece).old) =
           subst₂ (λ (u v : List ℤ). StandBefore o.0 (shared (s.moved).positions (t.moved).positions) u v) (sym gm.old) (sym gx.old) (subst₂ (λ (u v : List ℕ). StandBefore o.0 (shared u v) vs us) (sym s.by.positions) (sym t.by.positions) o.2) in
           let after : StandBefore w.0 (shared (t.side).positions (s.side).positions) zs ws = subst₂ (λ (u v : List ℕ). StandBefore w.0 (shared u v) zs ws) (sym new_t) (sym new_s) w.2 in
-          no_instances k i m.new x.new (m.piece).old (x.piece).old z ws zs ranged counts decided (small v there) one two (at-in (cells m.new) r.first a r.first_at) (at-in (cells x.new) r.second b r.second_at) equal before after)
+          no_instances k i m.new x.new (m.piece).old (x.piece).old z ws zs ranged counts decided one two (at-in (cells m.new) r.first a r.first_at) (at-in (cells x.new) r.second b r.second_at) equal before after)
     ]
 
 pub keeps_effect : TestKeepsEffect
-keeps_effect k i applies all moves new ranged counts tested first small others made stands pieces distinct fit xs ys l m =
-    (unchanged i moves k.nests new (record { made = made; stands = stands; pieces = pieces; distinct = distinct; subscripts = fit; none = none_changes k i applies all moves ranged counts tested first small others }) xs ys l m).1
+keeps_effect k i applies all moves new ranged counts tested first others made stands pieces distinct fit xs ys l m =
+    (unchanged i moves k.nests new (record { made = made; stands = stands; pieces = pieces; distinct = distinct; subscripts = fit; none = none_changes k i applies all moves ranged counts tested first others }) xs ys l m).1

@@ -37,7 +37,7 @@ use Rattle.depend_test.specs.Orders.{order_rows}
 use Rattle.depend_test.specs.Sides.{own_levels}
 use Rattle.depend_test.specs.Systems.{SameCell, cell_system, with_old}
 use Rattle.pair_laws.specs.Pairs.{StandBefore, pair_point}
-use Rattle.pair_laws.specs.Levels.{LevelHasNoDependence}
+use Rattle.pair_laws.specs.Levels.{IsSmallDecidedAt, LevelHasNoDependence}
 use Rattle.pair_laws.proofs.Cells.{meets-once, at, cell-met}
 use Rattle.pair_laws.proofs.Pairs.{old-met}
 
@@ -143,7 +143,7 @@ module _ (k : Kernel) (i : Input) (n : Nest) (vs : List ℤ) (count : length i.p
 
 pub no_dependence : LevelHasNoDependence
 unfolding with_access access_pairs
-no_dependence k i n s statement level vs us a b ranged counts same first small one two clash equal smaller =
+no_dependence k i n s statement level vs us a b ranged counts same first one two clash equal smaller =
     let r = numbered n n a b clash in
     let c : AccessPair = record { first = a; second = b } in
     let is : s.accesses ≡ cells n = same.side.accesses in
@@ -151,13 +151,14 @@ no_dependence k i n s statement level vs us a b ranged counts same first small o
     let two_at : IsAt r.second b s.accesses = subst (IsAt r.second b) (sym is) r.second_at in
     let here : IsIn c (with_conflict n.how r.first a r.second b) = subst (λ (x : Bool). IsIn c (cond x (c ∷ []) [])) (sym r.conflicts) (inl refl) in
     let listed : IsIn c (access_pairs s n.how) = in-all (with_access s n.how) r.first s.accesses a c one_at (in-all (with_conflict n.how r.first a) r.second s.accesses b c two_at here) in
-    let d : IsDecidedAt k s (suc level) c true = all-excluded (IsDecidedAt k s (suc level)) (level_dependence statement (suc level)) (access_pairs s n.how) None refl first c listed in
+    let e : IsSmallDecidedAt k s (suc level) c true = all-excluded (IsSmallDecidedAt k s (suc level)) (level_dependence statement (suc level)) (access_pairs s n.how) None refl first c listed in
+    let d : IsDecidedAt k s (suc level) c true = e.decided in
     let w : SameCell k s s a b = d.cell in
     let fs : List Aff = own_levels k.head n in
     let q : List ℤ = pair_point i n n vs us s s in
     let vars : ℕ = w.pair.first.vars in
     let rows : List Row = order_rows vars (suc level) (suc level) w.pair.first_old w.pair.second_old in
-    let parts = small-append vars (cell_system w).rows rows (small c listed w) in
+    let parts = small-append vars (cell_system w).rows rows e.small in
     let order : StandBefore (suc level) (suc level) (map (value (point i n vs)) fs) (map (value (point i n us)) fs) =
     subst₂ (λ (x y : List ℤ). IsSmallerAt (suc level) x y) (sym (own-levels k i n vs ranged.count one.deep)) (sym (own-levels k i n us ranged.count two.deep)) smaller in
     let x : IsIn a (cells n) = at-in (cells n) r.first a r.first_at in

@@ -4,3 +4,5 @@ mod Cells
 mod Candidates
 mod Levels
 mod Changes
+mod Worked
+mod Shifted

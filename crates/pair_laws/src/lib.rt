@@ -5,6 +5,8 @@ ghost use Rattle.pair_laws.specs.Pairs.{PairIsMet, SubscriptsAreMet, OrdersAreMe
 ghost use Rattle.pair_laws.specs.Candidates.{ExcludedHasNoInstances};
 ghost use Rattle.pair_laws.specs.Levels.{LevelHasNoDependence};
 ghost use Rattle.pair_laws.specs.Changes.{NoneOpenNoneChanges, TestKeepsEffect};
+ghost use Rattle.pair_laws.specs.Examples.{SettingLoop};
+ghost use Rattle.pair_laws.specs.Shifted.{ShiftedLoop};
 
 /// The rows of a pair's system that speak of no order are met at points of both statements.
 pub fn pair_is_met()
@@ -39,4 +41,14 @@ pub fn none_open_none_changes()
 /// Where the test of a command finds no dependence, the effect on all arrays stays.
 pub fn test_keeps_effect()
     ensures { TestKeepsEffect }
+{}
+
+/// The test of the level of a loop that sets an array.
+pub fn setting_loop()
+    ensures { SettingLoop }
+{}
+
+/// The test of a loop that is shifted, and the order that it keeps.
+pub fn shifted_loop()
+    ensures { ShiftedLoop }
 {}
