@@ -1,0 +1,23 @@
+-- The pieces that commands make in code are those of which the laws on pieces speak, for every statement.
+use Rattle.std.specs.Prelude.{◌<◌, ◌≤◌, ℕ, List, length, ℤ, pos}
+use Rattle.nest_tree.specs.declared.kernel.Nest.{Nest}
+use Rattle.nest_tree.specs.Pieces.{IsTiledPiece, IsShiftedPiece, IsPlacedPiece}
+use Rattle.affine_moves.specs.declared.change.Change.TheVariants.{Stay, Tile, Shift}
+use Rattle.affine_moves.specs.Change.{piece_of}
+use Rattle.affine_moves.specs.Placed.{piece_at}
+
+-- `shift`
+abbrev pub ShiftMakesShiftedPiece : Type 0
+ShiftMakesShiftedPiece = (params level : ℕ) (amount : ℤ) (n : Nest) → IsShiftedPiece params level amount (length n.levels) (piece_of params (Shift level amount) n)
+
+-- `tile`: the new level stands before or at the tiled one
+abbrev pub TileMakesTiledPiece : Type 0
+TileMakesTiledPiece =
+    (params level size outer : ℕ) (n : Nest) → 0 < outer → outer ≤ level → level ≤ length n.levels
+    → IsTiledPiece params (pos size) outer level (length n.levels) (piece_of params (Tile level size outer) n)
+
+-- a statement that stays, at its positions or at others, as by `fuse` and `distribute`
+abbrev pub StayMakesPlacedPiece : Type 0
+StayMakesPlacedPiece =
+    (params : ℕ) (n : Nest) (positions : List ℕ)
+    → IsPlacedPiece params (length n.levels) (piece_of params Stay n) × IsPlacedPiece params (length n.levels) (piece_at params n positions)

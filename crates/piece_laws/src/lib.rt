@@ -1,0 +1,20 @@
+//! The pieces that commands make in code are those of which the laws on pieces speak: each function here carries one law as its
+//! contract.
+#![tactic(auto)]
+
+ghost use Rattle.piece_laws.specs.Laws.{ShiftMakesShiftedPiece, TileMakesTiledPiece, StayMakesPlacedPiece};
+
+/// `shift` makes a shifted piece of every statement.
+pub fn shift_makes_shifted_piece()
+    ensures { ShiftMakesShiftedPiece }
+{}
+
+/// A statement that stays has a piece that only stands elsewhere.
+pub fn stay_makes_placed_piece()
+    ensures { StayMakesPlacedPiece }
+{}
+
+/// `tile` makes a tiled piece of every statement that has the level.
+pub fn tile_makes_tiled_piece()
+    ensures { TileMakesTiledPiece }
+{}
