@@ -35,7 +35,7 @@ pub coef-padded : (vars v j : ℕ) (zs : List ℤ) → coef j (padded vars v zs)
 unfolding padded
 coef-padded vars v j zs = ap (coef j) (append_assoc (replicate v (pos 0)) zs (replicate (vars - (v + length zs)) (pos 0))) ∙ coef-behind v j zs (vars - (v + length zs))
 
-unit_like : (vars v : ℕ) → IsLike (unit vars v) (variable v)
+pub unit_like : (vars v : ℕ) → IsLike (unit vars v) (variable v)
 unfolding unit
 unit_like vars v = record { coefs = λ j. coef-padded vars v j (pos 1 ∷ []); constant = refl }
 
@@ -48,19 +48,19 @@ unfolding unshifted
 unshifted_like vars v amount = record { coefs = λ j. coef-padded vars v j (pos 1 ∷ []) ∙ sym (coef-added-none j (zeros v (pos 1 ∷ []))); constant = omega (arith, ints) }
 
 -- ---- one level more
-next_variables : (params l d : ℕ) → variables (params + (l + 1)) d ≡ variables (suc (params + l)) d
+pub next_variables : (params l d : ℕ) → variables (params + (l + 1)) d ≡ variables (suc (params + l)) d
 next_variables params l d = let e : params + (l + 1) ≡ suc (params + l) = omega arith in ap (λ (k : ℕ). variables k d) e
 
 module _ (vars params : ℕ) where
   -- levels that stay
-  staying : (f : ℕ → Aff) → (l d : ℕ) → ((k : ℕ) → l ≤ k → f k ≡ unit vars (params + k)) → Pairwise IsLike (map f (range_with_len l d)) (variables (params + l) d)
+  pub staying : (f : ℕ → Aff) → (l d : ℕ) → ((k : ℕ) → l ≤ k → f k ≡ unit vars (params + k)) → Pairwise IsLike (map f (range_with_len l d)) (variables (params + l) d)
   staying f l zero h = tt
   staying f l (suc d) h = (
     subst (λ (g : Aff). IsLike g (variable (params + l))) (sym (h l (omega arith))) (unit_like vars (params + l)),
     subst (Pairwise IsLike (map f (range_with_len (l + 1) d))) (next_variables params l d) (staying f (l + 1) d (λ k b. h k (omega (arith, b)))),
   )
 
-  from_zero : (d : ℕ) → variables (params + 0) d ≡ variables params d
+  pub from_zero : (d : ℕ) → variables (params + 0) d ≡ variables params d
   from_zero d = let e : params + 0 ≡ params = omega arith in ap (λ (k : ℕ). variables k d) e
 
   -- ---- `shift`

@@ -1,8 +1,8 @@
 -- The pieces that commands make in code are those of which the laws on pieces speak, for every statement.
-use Rattle.std.specs.Prelude.{◌<◌, ◌≤◌, ℕ, List, length, ℤ, pos}
+use Rattle.std.specs.Prelude.{◌<◌, ◌≤◌, ℕ, suc, List, length, ℤ, pos}
 use Rattle.nest_tree.specs.declared.kernel.Nest.{Nest}
-use Rattle.nest_tree.specs.Pieces.{IsTiledPiece, IsShiftedPiece, IsPlacedPiece}
-use Rattle.affine_moves.specs.declared.change.Change.TheVariants.{Stay, Tile, Shift}
+use Rattle.nest_tree.specs.Pieces.{IsTiledPiece, IsSkewedPiece, IsShiftedPiece, IsPlacedPiece}
+use Rattle.affine_moves.specs.declared.change.Change.TheVariants.{Stay, Tile, Skew, Shift}
 use Rattle.affine_moves.specs.Change.{piece_of}
 use Rattle.affine_moves.specs.Placed.{piece_at}
 
@@ -15,6 +15,10 @@ abbrev pub TileMakesTiledPiece : Type 0
 TileMakesTiledPiece =
     (params level size outer : ℕ) (n : Nest) → 0 < outer → outer ≤ level → level ≤ length n.levels
     → IsTiledPiece params (pos size) outer level (length n.levels) (piece_of params (Tile level size outer) n)
+
+-- `skew`: the level behind those whose multiples are added
+abbrev pub SkewMakesSkewedPiece : Type 0
+SkewMakesSkewedPiece = (params : ℕ) (coefs : List ℤ) (n : Nest) → length coefs < length n.levels → IsSkewedPiece params coefs (length n.levels) (piece_of params (Skew (suc (length coefs)) coefs) n)
 
 -- a statement that stays, at its positions or at others, as by `fuse` and `distribute`
 abbrev pub StayMakesPlacedPiece : Type 0

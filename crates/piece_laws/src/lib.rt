@@ -2,7 +2,7 @@
 //! contract.
 #![tactic(auto)]
 
-ghost use Rattle.piece_laws.specs.Laws.{ShiftMakesShiftedPiece, TileMakesTiledPiece, StayMakesPlacedPiece};
+ghost use Rattle.piece_laws.specs.Laws.{ShiftMakesShiftedPiece, SkewMakesSkewedPiece, StayMakesPlacedPiece, TileMakesTiledPiece};
 
 /// `shift` makes a shifted piece of every statement.
 pub fn shift_makes_shifted_piece()
@@ -17,4 +17,9 @@ pub fn stay_makes_placed_piece()
 /// `tile` makes a tiled piece of every statement that has the level.
 pub fn tile_makes_tiled_piece()
     ensures { TileMakesTiledPiece }
+{}
+
+/// `skew` makes a skewed piece of every statement that has the level.
+pub fn skew_makes_skewed_piece()
+    ensures { SkewMakesSkewedPiece }
 {}
