@@ -1,10 +1,15 @@
 -- The pieces that commands make in code are those of which the laws on pieces speak, for every statement.
-use Rattle.std.specs.Prelude.{◌<◌, ◌≤◌, ℕ, suc, List, length, ℤ, pos}
+use Rattle.std.specs.Prelude.{◌≡◌, ◌<◌, ◌≤◌, ℕ, suc, List, length, ℤ, pos}
 use Rattle.nest_tree.specs.declared.kernel.Nest.{Nest}
-use Rattle.nest_tree.specs.Pieces.{IsTiledPiece, IsSkewedPiece, IsShiftedPiece, IsPlacedPiece}
-use Rattle.affine_moves.specs.declared.change.Change.TheVariants.{Stay, Tile, Skew, Shift}
+use Rattle.nest_tree.specs.Levels.{IsPermutation}
+use Rattle.nest_tree.specs.Pieces.{IsPermutedPiece, IsTiledPiece, IsSkewedPiece, IsShiftedPiece, IsPlacedPiece}
+use Rattle.affine_moves.specs.declared.change.Change.TheVariants.{Stay, Order, Tile, Skew, Shift}
 use Rattle.affine_moves.specs.Change.{piece_of}
 use Rattle.affine_moves.specs.Placed.{piece_at}
+
+-- `permute`, by an order of all levels
+abbrev pub PermuteMakesPermutedPiece : Type 0
+PermuteMakesPermutedPiece = (params : ℕ) (order : List ℕ) (n : Nest) → IsPermutation order → length order ≡ length n.levels → IsPermutedPiece params order (piece_of params (Order order) n)
 
 -- `shift`
 abbrev pub ShiftMakesShiftedPiece : Type 0

@@ -2,7 +2,7 @@
 //! contract.
 #![tactic(auto)]
 
-ghost use Rattle.piece_laws.specs.Laws.{ShiftMakesShiftedPiece, SkewMakesSkewedPiece, StayMakesPlacedPiece, TileMakesTiledPiece};
+ghost use Rattle.piece_laws.specs.Laws.{PermuteMakesPermutedPiece, ShiftMakesShiftedPiece, SkewMakesSkewedPiece, StayMakesPlacedPiece, TileMakesTiledPiece};
 
 /// `shift` makes a shifted piece of every statement.
 pub fn shift_makes_shifted_piece()
@@ -22,4 +22,9 @@ pub fn tile_makes_tiled_piece()
 /// `skew` makes a skewed piece of every statement that has the level.
 pub fn skew_makes_skewed_piece()
     ensures { SkewMakesSkewedPiece }
+{}
+
+/// An order of all levels makes a permuted piece of every statement.
+pub fn permute_makes_permuted_piece()
+    ensures { PermuteMakesPermutedPiece }
 {}
