@@ -41,15 +41,15 @@ promise source text p q e g w h = record {
   performs = text_performs source text p q g.0 w h;
 }
 
-is_the : (o : Option Program) (q w : Program) → o ≡ Some q → IsFor o w → o ≡ Some w
-is_the (Some r) q w k f = ap Some f
-is_the None q w k f = absurd (false≢true (ap is_some k))
+is_the : (commands : List Command) (p : Program) (o : Option Program) (q w : Program) → o ≡ Some q → IsFor commands p o w → o ≡ Some w
+is_the commands p (Some r) q w k f = ap Some f
+is_the commands p None q w k f = absurd (false≢true (ap is_some k))
 
 -- where the source's program is written as it stands, the text is that of what stands
 standing_text : (commands : List Command) (source text : List ℕ) (p w : Program) → program_of source ≡ Ok p → IsProgram (tokens_of source) p × KeepsRules p
-    → IsFor (as_it_stands commands p) w → text ≡ program_text w → (q : Program) → as_it_stands commands p ≡ Some q → IsTextFor source text
+    → IsFor commands p (as_it_stands commands p) w → text ≡ program_text w → (q : Program) → as_it_stands commands p ≡ Some q → IsTextFor source text
 unfolding written_for
-standing_text [] source text p w e g f h q k = promise source text p w e g (is_the (written p) q w k f) h
+standing_text [] source text p w e g f h q k = promise source text p w e g (is_the [] p (written p) q w k f) h
 standing_text (c ∷ cs) source text p w e g f h q k = absurd (false≢true (ap is_some k))
 
 -- a program of the grammar has an executor
@@ -57,7 +57,7 @@ pub has_executor : (ts : List Token) (p : Program) → IsProgram ts p → HasExe
 has_executor = program-executor
 
 pub is_written : (commands : List Command) (source text : List ℕ) (p w : Program) → program_of source ≡ Ok p → IsProgram (tokens_of source) p → KeepsRules p
-    → IsFor (as_it_stands commands p) w → text ≡ program_text w → IsWritten commands source text
+    → IsFor commands p (as_it_stands commands p) w → text ≡ program_text w → IsWritten commands source text
 is_written commands source text p w e g r f h = record {
   origin = p;
   is_program = e;
@@ -65,5 +65,6 @@ is_written commands source text p w e g r f h = record {
   rules = r;
   written = w;
   is_text = h;
+  made = f;
   standing = standing_text commands source text p w e (g, r) f h;
 }

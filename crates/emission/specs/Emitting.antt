@@ -1,5 +1,5 @@
 -- What is made of a recipe and a source.
-use Rattle.std.specs.Prelude.{◌≡◌, ◌≤◌, ◌⊎◌, ℕ, List, [], ◌∷◌, length, Option, Some, None, Result, Ok, Err}
+use Rattle.std.specs.Prelude.{◌≡◌, ◌⊎◌, ◌+◌, ℕ, List, [], ◌∷◌, ◌++◌, length, Option, Some, None, Result, Ok, Err}
 use Rattle.c_tree.specs.declared.program.Program.{Program}
 use Rattle.c_tokens.specs.Pieces.{tokens_of}
 use Rattle.c_grammar.specs.Program.{IsProgram}
@@ -12,6 +12,11 @@ use Rattle.c_meaning.specs.Programs.{IsFine, list_of}
 use Rattle.headline.specs.Headline.{PerformsAsSource}
 use Rattle.first_laws.specs.Alike.{HasSameSignature, RunsAlike}
 use Rattle.c_print.specs.Program.{program_text}
+use Rattle.source_limits.specs.Heads.{signature_of}
+use Rattle.nest_tree.specs.declared.kernel.Kernel.{Kernel}
+use Rattle.nest_core.specs.Shapes.{IsShaped}
+use Rattle.kernel_commands.specs.Done.{AllDone}
+use Rattle.loop_scan.specs.Heads.{KeepsHead}
 use Rattle.recipe_read.specs.declared.command.Command.{Command}
 use Rattle.recipe_read.specs.declared.recipe.RecipeFault.{RecipeFault}
 use Rattle.recipe_read.specs.Recipe as recipes
@@ -32,22 +37,64 @@ abbrev pub RecipeCause : Result (List Command) RecipeFault → Refusal → Type 
 RecipeCause (Ok commands) refusal = ⊥
 RecipeCause (Err fault) refusal = refusal ≡ Recipe fault
 
--- a refusal of a program that is read: it isn't accepted, one of so many commands is refused, or the statements can't be written
-abbrev pub IsLater : ℕ → Refusal → Type 0
-IsLater count (Source fault) = Unit {0}
-IsLater count (CommandRefused number fault) = (1 ≤ number) × (number ≤ count)
-IsLater count (Scan fault) = Unit {0}
-IsLater count refusal = ⊥
+-- what acceptance says of a program's kernel: it is well-formed, its head is the program's signature, and no arrays are made
+pub record IsAccepted (program : Program) (kernel : Kernel) : Type 0 where
+  pub shaped : IsShaped kernel
+  pub head : kernel.head ≡ signature_of program
+  pub made : kernel.made ≡ []
 
--- the program is the one that is given, if one is
-abbrev pub IsFor : Option Program → Program → Type 0
-IsFor None q = Unit {0}
-IsFor (Some p) q = p ≡ q
+-- the kernel that the commands, one behind the other, make of an accepted kernel of a program
+pub record IsReached (commands : List Command) (program : Program) (last : Kernel) : Type 0 where
+  pub accepted : Kernel
+  pub is_accepted : IsAccepted program accepted
+  pub done : AllDone accepted commands last
+  pub shaped : IsShaped last
+
+-- a program that is written from the kernel that the commands make: it keeps that kernel's signature and inspector
+pub record IsThrough (commands : List Command) (program written : Program) : Type 0 where
+  pub last : Kernel
+  pub reached : IsReached commands program last
+  pub head : KeepsHead last.head written
+
+-- the command of this number is the next one: those before it have made the new kernel of the old one
+pub record IsNext (old : Kernel) (commands : List Command) (number : ℕ) (new : Kernel) : Type 0 where
+  pub front : List Command
+  pub command : Command
+  pub rest : List Command
+  pub parts : commands ≡ front ++ command ∷ rest
+  pub count : number ≡ length front + 1
+  pub done : AllDone old front new
+
+-- a command is refused, by its number, at the kernel that those before it have made
+abbrev pub IsRefusedAt : Kernel → List Command → Kernel → Refusal → Type 0
+IsRefusedAt old commands new (CommandRefused number fault) = IsNext old commands number new
+IsRefusedAt old commands new refusal = ⊥
+
+-- the same of the commands of a recipe, from an accepted kernel of a program on
+pub record IsStopped (commands : List Command) (program : Program) (number : ℕ) : Type 0 where
+  pub accepted : Kernel
+  pub is_accepted : IsAccepted program accepted
+  pub before : Kernel
+  pub shaped : IsShaped before
+  pub next : IsNext accepted commands number before
+
+-- a refusal of a program that is read: it isn't accepted, a command is refused behind those before it, or the statements that
+-- all commands make can't be written
+abbrev pub IsLater : List Command → Program → Refusal → Type 0
+IsLater commands program (Source fault) = Unit {0}
+IsLater commands program (CommandRefused number fault) = IsStopped commands program number
+IsLater commands program (Scan fault) = (last : Kernel) × IsReached commands program last
+IsLater commands program refusal = ⊥
+
+-- the written program is the one that stands, if one does, and else it is written from the kernel that the commands make
+abbrev pub IsFor : List Command → Program → Option Program → Program → Type 0
+IsFor commands program None written = IsThrough commands program written
+IsFor commands program (Some standing) written = standing ≡ written
 
 -- why a source is refused: it is no program, for a cause that the grammar and the rules show; or it is one that isn't written
 -- as it stands, and a later layer refuses it
 abbrev pub SourceCause : List Command → Result Program ProgramFault → Refusal → Type 0
-SourceCause commands (Ok program) refusal = (as_it_stands commands program ≡ None) × IsLater (length commands) refusal
+SourceCause commands (Ok program) refusal = (as_it_stands commands program ≡ None) × IsLater commands program refusal
 SourceCause commands (Err fault) refusal = refusal ≡ ProgramRefused fault
 
 -- The text of the program that is written for the source's program where it is written as it stands. The source's program is
@@ -69,7 +116,7 @@ pub record IsTextFor (source text : List ℕ) : Type 0 where
   pub performs : PerformsAsSource list_of source text
 
 -- The text of a program that is written for the source's program. It is the one above where the source's program is written
--- as it stands.
+-- as it stands; else the program is written from the kernel that the commands, one behind the other, make of an accepted one.
 pub record IsWritten (commands : List Command) (source text : List ℕ) : Type 0 where
   pub origin : Program
   pub is_program : program_of source ≡ Ok origin
@@ -77,6 +124,7 @@ pub record IsWritten (commands : List Command) (source text : List ℕ) : Type 0
   pub rules : KeepsRules origin
   pub written : Program
   pub is_text : text ≡ program_text written
+  pub made : IsFor commands origin (as_it_stands commands origin) written
   pub standing : (q : Program) → as_it_stands commands origin ≡ Some q → IsTextFor source text
 
 -- with the commands of a recipe

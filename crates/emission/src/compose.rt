@@ -1,5 +1,5 @@
 // The text that a recipe makes of a source.
-ghost use Rattle.std.specs.Prelude.{◌≡◌, Ok, Some, None, IfOk, IfErr, length};
+ghost use Rattle.std.specs.Prelude.{◌≡◌, Ok, Some, None, IfOk, IfErr};
 ghost use Rattle.c_judge.specs.Rules.{KeepsRules};
 ghost use Rattle.source_limits.specs.Executor.{HasExecutor};
 ghost use Rattle.recipe_read.specs.Recipe as recipes;
@@ -36,9 +36,9 @@ fn standing(
 fn written(alloc: Global, commands: &[Command], program: &Program) -> Result<Program, Stop<Refusal>>
     requires rules { KeepsRules program.now }
     requires executor { HasExecutor program.now }
-    ensures ok { IfOk result (λ q. IsFor (as_it_stands commands.now program.now) q) }
+    ensures ok { IfOk result (IsFor commands.now program.now (as_it_stands commands.now program.now)) }
     ensures none { IfErr result (IfRefused (λ r. as_it_stands commands.now program.now ≡ None)) }
-    ensures later { IfErr result (IfRefused (IsLater (length commands.now))) }
+    ensures later { IfErr result (IfRefused (IsLater commands.now program.now)) }
 {
     match standing(alloc, commands, program)? {
         Some(written) => Ok(written),

@@ -1,5 +1,5 @@
 -- What a command of a recipe has done to a kernel where it is Ok.
-use Rattle.std.specs.Prelude.{◌≡◌, ⊤, IfOk, Ok}
+use Rattle.std.specs.Prelude.{◌≡◌, ⊤, List, [], ◌∷◌, IfOk, Ok}
 use Rattle.nest_tree.specs.declared.kernel.Kernel.{Kernel}
 use Rattle.recipe_read.specs.declared.command.Command.{Command}
 use Rattle.recipe_read.specs.declared.command.Command.TheVariants.{Permute, Tile, Skew, Shift, Fuse, Distribute, Unroll, Datacopy, MakeDense, Compact, CompactAndPad}
@@ -29,3 +29,8 @@ IsDone old new (Datacopy s level array copy) = IsCopied old new copy
 IsDone old new (MakeDense s level) = IsDense old new s level (judged_matrix old s level)
 IsDone old new (Compact s level name) = IsCompacted old new s level name
 IsDone old new (CompactAndPad s level kind name) = IfOk (plan_of old s level kind) (λ p. IsPadded old new s p name)
+
+-- the commands of a list, one behind the other, have made the new kernel of the old one
+abbrev pub AllDone : Kernel → List Command → Kernel → Type 0
+AllDone old [] new = new ≡ old
+AllDone old (command ∷ commands) new = (mid : Kernel) × IsDone old mid command × AllDone mid commands new
