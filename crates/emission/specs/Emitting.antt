@@ -16,6 +16,9 @@ use Rattle.source_limits.specs.Heads.{signature_of}
 use Rattle.nest_tree.specs.declared.kernel.Kernel.{Kernel}
 use Rattle.nest_core.specs.Shapes.{IsShaped}
 use Rattle.kernel_commands.specs.Done.{AllDone}
+use Rattle.kernel_commands.specs.Refused.{Answers}
+use Rattle.nest_tree.specs.declared.fault.CommandFault.{CommandFault}
+use Rattle.chill_base.specs.declared.faults.Stop.TheVariants.{Refused}
 use Rattle.loop_scan.specs.Heads.{KeepsHead}
 use Rattle.recipe_read.specs.declared.command.Command.{Command}
 use Rattle.recipe_read.specs.declared.recipe.RecipeFault.{RecipeFault}
@@ -56,33 +59,35 @@ pub record IsThrough (commands : List Command) (program written : Program) : Typ
   pub reached : IsReached commands program last
   pub head : KeepsHead last.head written
 
--- the command of this number is the next one: those before it have made the new kernel of the old one
-pub record IsNext (old : Kernel) (commands : List Command) (number : ℕ) (new : Kernel) : Type 0 where
+-- the command of this number is the next one, where those before it have made the new kernel of the old one, and it is refused
+-- there for this fault
+pub record IsNext (old : Kernel) (commands : List Command) (number : ℕ) (fault : CommandFault) (new : Kernel) : Type 0 where
   pub front : List Command
   pub command : Command
   pub rest : List Command
   pub parts : commands ≡ front ++ command ∷ rest
   pub count : number ≡ length front + 1
   pub done : AllDone old front new
+  pub answers : Answers new command (Err (Refused fault))
 
 -- a command is refused, by its number, at the kernel that those before it have made
 abbrev pub IsRefusedAt : Kernel → List Command → Kernel → Refusal → Type 0
-IsRefusedAt old commands new (CommandRefused number fault) = IsNext old commands number new
+IsRefusedAt old commands new (CommandRefused number fault) = IsNext old commands number fault new
 IsRefusedAt old commands new refusal = ⊥
 
 -- the same of the commands of a recipe, from an accepted kernel of a program on
-pub record IsStopped (commands : List Command) (program : Program) (number : ℕ) : Type 0 where
+pub record IsStopped (commands : List Command) (program : Program) (number : ℕ) (fault : CommandFault) : Type 0 where
   pub accepted : Kernel
   pub is_accepted : IsAccepted program accepted
   pub before : Kernel
   pub shaped : IsShaped before
-  pub next : IsNext accepted commands number before
+  pub next : IsNext accepted commands number fault before
 
 -- a refusal of a program that is read: it isn't accepted, a command is refused behind those before it, or the statements that
 -- all commands make can't be written
 abbrev pub IsLater : List Command → Program → Refusal → Type 0
 IsLater commands program (Source fault) = Unit {0}
-IsLater commands program (CommandRefused number fault) = IsStopped commands program number
+IsLater commands program (CommandRefused number fault) = IsStopped commands program number fault
 IsLater commands program (Scan fault) = (last : Kernel) × IsReached commands program last
 IsLater commands program refusal = ⊥
 

@@ -1,5 +1,5 @@
 -- What a command of a recipe has done to a kernel where it is Ok.
-use Rattle.std.specs.Prelude.{◌≡◌, ⊤, List, [], ◌∷◌, IfOk, Ok}
+use Rattle.std.specs.Prelude.{◌≡◌, List, [], ◌∷◌, IfOk, Ok}
 use Rattle.nest_tree.specs.declared.kernel.Kernel.{Kernel}
 use Rattle.recipe_read.specs.declared.command.Command.{Command}
 use Rattle.recipe_read.specs.declared.command.Command.TheVariants.{Permute, Tile, Skew, Shift, Fuse, Distribute, Unroll, Datacopy, MakeDense, Compact, CompactAndPad}

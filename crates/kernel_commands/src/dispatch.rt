@@ -2,6 +2,7 @@
 ghost use Rattle.std.specs.Prelude.{◌≡◌, OnOk, OnErr};
 ghost use Rattle.nest_core.specs.Shapes.{IsShaped};
 ghost use Rattle.kernel_commands.specs.Done.{IsDone};
+ghost use Rattle.kernel_commands.specs.Refused.{Answers};
 
 use affine_commands::{distribute, fuse, permute, shift, skew, tile, unroll};
 use chill_base::Stop;
@@ -23,6 +24,7 @@ pub fn apply(
     ensures shaped { OnOk result (IsShaped kernel.new) }
     ensures refused { OnErr result (kernel.new ≡ kernel.old) }
     ensures done { OnOk result (IsDone kernel.old kernel.new command.now) }
+    ensures answers { Answers kernel.old command.now result }
 {
     match command {
         Command::Permute { statement, order } => {
