@@ -1,0 +1,21 @@
+-- A worked input: a data text for a loop that copies an array.
+use Rattle.std.specs.Prelude.{◌≡◌, ℕ, pos, List, [], ◌∷◌, codes, Ok}
+use Rattle.c_meaning.specs.Examples.{b, n}
+use Rattle.c_meaning.specs.Names.{line}
+use Rattle.csr_data.specs.Lines.{Given}
+use Rattle.csr_data.specs.Matrices.{says}
+use Rattle.run_laws.specs.Examples.{copying, copying_tokens, copied_values, copied_arrays}
+use Rattle.input_laws.specs.Inputs.{Reads, RunsAsDefined, input_of}
+
+-- n is 2; b has 5 and 7, c has 1 and 0
+abbrev pub copied_text : List ℕ
+copied_text = codes "n 2\nb 5 7\nc 1 0\n"
+
+abbrev pub copied : Given
+copied = record { params = copied_values; arrays = copied_arrays }
+
+-- the text says so; the program keeps the rules, so the machine runs as the definitions say on that input; its n is 2 and its b[1] is 7
+abbrev pub WorkedInput : Type 0
+WorkedInput =
+    Reads copying copied_text copied × RunsAsDefined copying copied × ((input_of copied).value n ≡ pos 2)
+    × ((input_of copied).cells (record { array = b; at = line (pos 1) }) ≡ 7)

@@ -1,0 +1,36 @@
+//! The input that a data text gives: it is valid, and the machine's run on what the text gives is the run of the
+//! definitions on that input. Each function here carries one law as its contract.
+#![tactic(auto)]
+
+ghost use Rattle.input_laws.specs.Examples.{WorkedInput};
+ghost use Rattle.input_laws.specs.Inputs.{ParametersAreValid, ExtentsAreValid, NumbersAreValid, SameStart, SameRuns};
+
+/// Each parameter that a data text gives is in 0 to 2^24.
+pub fn parameters_are_valid()
+    ensures { ParametersAreValid }
+{}
+
+/// On what a data text gives, each extent has a value, and none is negative.
+pub fn extents_are_valid()
+    ensures { ExtentsAreValid }
+{}
+
+/// Each cell of a data array that a data text gives is below 2^64.
+pub fn numbers_are_valid()
+    ensures { NumbersAreValid }
+{}
+
+/// The machine starts with the arrays that a run of the definitions starts with.
+pub fn same_start()
+    ensures { SameStart }
+{}
+
+/// The machine's inspector and executor run as the definitions say.
+pub fn same_runs()
+    ensures { SameRuns }
+{}
+
+/// A data text for a loop that copies an array.
+pub fn worked_input()
+    ensures { WorkedInput }
+{}
