@@ -20,8 +20,12 @@ use Rattle.c_meaning.proofs.Equations.{measure-Var}
 use Rattle.csr_data.specs.Lines.{dues}
 use Rattle.csr_data.specs.Matrices.{says}
 use Rattle.run_laws.specs.Examples.{copying, copying_tokens}
+use Rattle.first_form.specs.Nests.{outer_name}
+use Rattle.first_laws.specs.Examples as first
+use Rattle.first_laws.proofs.Examples.{copies}
 use Rattle.input_laws.specs.Inputs.{Reads}
-use Rattle.input_laws.specs.Examples.{copied, copied_text, WorkedInput}
+use Rattle.input_laws.specs.Examples.{copied, copied_text, WorkedInput, WorkedRuns}
+use Rattle.input_laws.proofs.Alike.{alike}
 use Rattle.input_laws.proofs.Starts.{runs}
 
 copying_is : IsProgram copying_tokens copying
@@ -61,3 +65,6 @@ reads = record { tokens = copying_tokens; grammar = copying_is; rules = keeps; s
 
 pub worked_input : WorkedInput
 worked_input = (reads, runs copying copied_text copied reads, refl, refl)
+
+pub worked_runs : WorkedRuns
+worked_runs = alike copying (first.copying outer_name) copied_text copied copies reads

@@ -1,3 +1,4 @@
 pub mod Tables
 pub mod Starts
 pub mod Examples
+pub mod Alike

@@ -5,6 +5,9 @@ use Rattle.c_meaning.specs.Names.{line}
 use Rattle.csr_data.specs.Lines.{Given}
 use Rattle.csr_data.specs.Matrices.{says}
 use Rattle.run_laws.specs.Examples.{copying, copying_tokens, copied_values, copied_arrays}
+use Rattle.first_form.specs.Nests.{outer_name}
+use Rattle.first_laws.specs.Examples as first
+use Rattle.input_laws.specs.Alike.{RunAlikeOn}
 use Rattle.input_laws.specs.Inputs.{Reads, RunsAsDefined, input_of}
 
 -- n is 2; b has 5 and 7, c has 1 and 0
@@ -19,3 +22,7 @@ abbrev pub WorkedInput : Type 0
 WorkedInput =
     Reads copying copied_text copied × RunsAsDefined copying copied × ((input_of copied).value n ≡ pos 2)
     × ((input_of copied).cells (record { array = b; at = line (pos 1) }) ≡ 7)
+
+-- and the program that is written for it does the same on that text
+abbrev pub WorkedRuns : Type 0
+WorkedRuns = RunAlikeOn copying (first.copying outer_name) copied_text copied

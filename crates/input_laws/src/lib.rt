@@ -2,7 +2,8 @@
 //! definitions on that input. Each function here carries one law as its contract.
 #![tactic(auto)]
 
-ghost use Rattle.input_laws.specs.Examples.{WorkedInput};
+ghost use Rattle.input_laws.specs.Alike.{PlainInputIsValid, FirstFormRunsAlike};
+ghost use Rattle.input_laws.specs.Examples.{WorkedInput, WorkedRuns};
 ghost use Rattle.input_laws.specs.Inputs.{ParametersAreValid, ExtentsAreValid, NumbersAreValid, SameStart, SameRuns};
 
 /// Each parameter that a data text gives is in 0 to 2^24.
@@ -30,7 +31,23 @@ pub fn same_runs()
     ensures { SameRuns }
 {}
 
+/// What a data text gives for a program without matrices is a valid input.
+pub fn plain_input_is_valid()
+    ensures { PlainInputIsValid }
+{}
+
+/// On what a data text gives for a program of the first form, the machine runs that program and the one that is written for
+/// it without a fault, and leaves each array of the signature the same behind both.
+pub fn first_form_runs_alike()
+    ensures { FirstFormRunsAlike }
+{}
+
 /// A data text for a loop that copies an array.
 pub fn worked_input()
     ensures { WorkedInput }
+{}
+
+/// That loop, and the loop that is written for it, on that text.
+pub fn worked_runs()
+    ensures { WorkedRuns }
 {}
