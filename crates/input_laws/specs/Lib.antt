@@ -1,3 +1,4 @@
 pub mod Inputs
 pub mod Examples
 pub mod Alike
+pub mod Rows

@@ -5,6 +5,7 @@
 ghost use Rattle.input_laws.specs.Alike.{PlainInputIsValid, FirstFormRunsAlike};
 ghost use Rattle.input_laws.specs.Examples.{WorkedInput, WorkedRuns};
 ghost use Rattle.input_laws.specs.Inputs.{ParametersAreValid, ExtentsAreValid, NumbersAreValid, SameStart, SameRuns};
+ghost use Rattle.input_laws.specs.Rows.{NoneIsBroken, UnbrokenIsCsr};
 
 /// Each parameter that a data text gives is in 0 to 2^24.
 pub fn parameters_are_valid()
@@ -19,6 +20,16 @@ pub fn extents_are_valid()
 /// Each cell of a data array that a data text gives is below 2^64.
 pub fn numbers_are_valid()
     ensures { NumbersAreValid }
+{}
+
+/// A data text that gives values breaks no matrix of the signature.
+pub fn no_matrix_is_broken()
+    ensures { NoneIsBroken }
+{}
+
+/// Where nothing of a matrix is told as broken, its two lists are in CSR form.
+pub fn unbroken_is_csr()
+    ensures { UnbrokenIsCsr }
 {}
 
 /// The machine starts with the arrays that a run of the definitions starts with.
