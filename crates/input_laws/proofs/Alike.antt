@@ -1,5 +1,5 @@
 -- A program of the first form and the program that is written for it do the same on what a data text gives.
-use Rattle.std.proofs.Common.{◌≡◌, ℕ, List, [], Some, None, Ok, refl, sym, ap, ◌∙◌, subst}
+use Rattle.std.proofs.Common.{◌≡◌, ℕ, List, [], Some, sym, ap, ◌∙◌, subst}
 use Rattle.std.specs.Prelude.{◌++◌, map}
 use Rattle.std.specs.List.{AllByRecursion}
 use Rattle.c_tree.specs.declared.program.Array.{Array}

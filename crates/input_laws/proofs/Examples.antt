@@ -1,5 +1,5 @@
 -- The worked input, computed.
-use Rattle.std.proofs.Common.{◌≡◌, List, [], refl, ap, ◌∙◌, arith, None, Ok}
+use Rattle.std.proofs.Common.{◌≡◌, refl, ap, ◌∙◌, arith, None, Ok}
 use Rattle.std.specs.Option.{option_or}
 use Rattle.c_grammar.specs.Data as d
 use Rattle.c_grammar.specs.Index as i

@@ -13,10 +13,10 @@ use Rattle.c_tree.specs.declared.program.Program.{Program}
 use Rattle.c_grammar.specs.Index.{Word}
 use Rattle.c_grammar.specs.Program.{IsProgram, AreParameters, AreArrays, IsArray}
 use Rattle.c_grammar.specs.Program as rule
-use Rattle.c_meaning.specs.Inputs.{Input, IsParameter, HasExtents, array_named, extents_in, declared_extents, three, three_of, sight_of_parameters, start}
+use Rattle.c_meaning.specs.Inputs.{IsParameter, HasExtents, array_named, extents_in, three, three_of, sight_of_parameters, start}
 use Rattle.c_meaning.specs.Memory.{Memory, Spot}
 use Rattle.c_meaning.specs.Names.{Name, same_name}
-use Rattle.c_meaning.specs.Programs.{inspection, execution}
+use Rattle.c_meaning.specs.Programs.{inspection}
 use Rattle.c_meaning.specs.Run.{Outcome, run}
 use Rattle.c_meaning.specs.Value.{Answer, ◌>>=◌, Sight, is_inside, value_of, values_of}
 use Rattle.c_walk.specs.State.{memory_in}
@@ -24,7 +24,6 @@ use Rattle.raw_store.specs.Rows.{place}
 use Rattle.csr_data.specs.declared.values.Parameter.{Parameter}
 use Rattle.csr_data.specs.declared.values.Table.{Table}
 use Rattle.csr_data.specs.Extents.{first_negative, extent_at}
-use Rattle.csr_data.specs.Lines as lines
 use Rattle.csr_data.specs.Lines.{Given}
 use Rattle.csr_data.specs.Parameters.{AreSmall, Gives, number_in, sight_of}
 use Rattle.csr_data.specs.Signature as signature
@@ -34,10 +33,10 @@ use Rattle.csr_data.proofs.Extents.{have_values}
 use Rattle.csr_data.proofs.Told.{says_names}
 use Rattle.c_run.specs.Arrays.{Shape, shape_of, shape_in, table_of, extents_of, extents_of_rows, cell_in, cell_of, cell_at}
 use Rattle.c_run.specs.Store.{prepared, data_as, data_of}
-use Rattle.program_run.specs.Runs.{inspected, executed}
+use Rattle.program_run.specs.Runs.{inspected}
 use Rattle.run_laws.proofs.Divisors.{program_divides}
 use Rattle.input_laws.specs.Inputs.{input_of, Reads, RunsAsDefined}
-use Rattle.input_laws.proofs.Tables.{AreBelow, IsTableOf, AreTables, GivesAll, says_all}
+use Rattle.input_laws.proofs.Tables.{AreBelow, IsTableOf, AreTables, says_all}
 
 -- ---- parameters
 in_range : (n : ℕ) → n ≤ 2 ^ 24 → pos n ≤ℤ pos (2 ^ 24)

@@ -1,5 +1,5 @@
 -- What the lines of a data text give: a number for each parameter, and a table for each array.
-use Rattle.std.proofs.Common.{◌≡◌, ℕ, suc, ◌+◌, ◌-◌, ◌*◌, ◌<◌, ◌≤◌, ◌^◌, min, Bool, true, false, ◌&&◌, List, [], ◌∷◌, ◌++◌, map, length, Option, Some, None, Result, Ok, Err, if◌then◌else◌, nat_eq, nat_le, nat_lt, refl, sym, ap, ◌∙◌, subst, append-nil, append_assoc, arith, pos, ℤ}
+use Rattle.std.proofs.Common.{◌≡◌, ℕ, suc, ◌+◌, ◌-◌, ◌*◌, ◌<◌, ◌≤◌, ◌^◌, min, Bool, true, false, ◌&&◌, List, [], ◌∷◌, ◌++◌, map, length, Option, Some, None, Ok, Err, if◌then◌else◌, nat_eq, nat_le, nat_lt, refl, sym, ap, ◌∙◌, subst, append-nil, append_assoc, arith, pos, ℤ}
 use Rattle.std.specs.Prelude.{slice_index_or}
 use Rattle.std.specs.Option.{option_map, option_to_list}
 use Rattle.std.specs.List.{AllByRecursion}
@@ -7,7 +7,7 @@ use Rattle.std.proofs.lemmas.Bool.Decides.{nat_tests}
 use Rattle.c_tree.specs.declared.program.Array.{Array}
 use Rattle.c_tree.specs.declared.program.Program.{Program}
 use Rattle.c_meaning.specs.Names.{Name}
-use Rattle.c_meaning.proofs.Fitting.{and_left, and_right}
+use Rattle.c_meaning.proofs.Fitting.{and_right}
 use Rattle.csr_data.specs.declared.fault.ValuesFault.{ValuesFault}
 use Rattle.csr_data.specs.declared.fault.ValuesFault.TheVariants.{Line, Limit, Count}
 use Rattle.csr_data.specs.declared.values.Parameter.{Parameter}

@@ -1,10 +1,9 @@
 -- A worked input: a data text for a loop that copies an array.
-use Rattle.std.specs.Prelude.{◌≡◌, ℕ, pos, List, [], ◌∷◌, codes, Ok}
+use Rattle.std.specs.Prelude.{◌≡◌, ℕ, pos, List, codes}
 use Rattle.c_meaning.specs.Examples.{b, n}
 use Rattle.c_meaning.specs.Names.{line}
 use Rattle.csr_data.specs.Lines.{Given}
-use Rattle.csr_data.specs.Matrices.{says}
-use Rattle.run_laws.specs.Examples.{copying, copying_tokens, copied_values, copied_arrays}
+use Rattle.run_laws.specs.Examples.{copying, copied_values, copied_arrays}
 use Rattle.first_form.specs.Nests.{outer_name}
 use Rattle.first_laws.specs.Examples as first
 use Rattle.input_laws.specs.Alike.{RunAlikeOn}
