@@ -1,0 +1,5 @@
+pub mod Tables
+pub mod Starts
+pub mod Examples
+pub mod Alike
+pub mod Rows

@@ -1,0 +1,4 @@
+pub mod Inputs
+pub mod Examples
+pub mod Alike
+pub mod Rows

@@ -1,0 +1,64 @@
+//! The input that a data text gives: it is valid, and the machine's run on what the text gives is the run of the
+//! definitions on that input. Each function here carries one law as its contract.
+#![tactic(auto)]
+
+ghost use Rattle.input_laws.specs.Alike.{PlainInputIsValid, FirstFormRunsAlike};
+ghost use Rattle.input_laws.specs.Examples.{WorkedInput, WorkedRuns};
+ghost use Rattle.input_laws.specs.Inputs.{ParametersAreValid, ExtentsAreValid, NumbersAreValid, SameStart, SameRuns};
+ghost use Rattle.input_laws.specs.Rows.{NoneIsBroken, UnbrokenIsCsr};
+
+/// Each parameter that a data text gives is in 0 to 2^24.
+pub fn parameters_are_valid()
+    ensures { ParametersAreValid }
+{}
+
+/// On what a data text gives, each extent has a value, and none is negative.
+pub fn extents_are_valid()
+    ensures { ExtentsAreValid }
+{}
+
+/// Each cell of a data array that a data text gives is below 2^64.
+pub fn numbers_are_valid()
+    ensures { NumbersAreValid }
+{}
+
+/// A data text that gives values breaks no matrix of the signature.
+pub fn no_matrix_is_broken()
+    ensures { NoneIsBroken }
+{}
+
+/// Where nothing of a matrix is told as broken, its two lists are in CSR form.
+pub fn unbroken_is_csr()
+    ensures { UnbrokenIsCsr }
+{}
+
+/// The machine starts with the arrays that a run of the definitions starts with.
+pub fn same_start()
+    ensures { SameStart }
+{}
+
+/// The machine's inspector and executor run as the definitions say.
+pub fn same_runs()
+    ensures { SameRuns }
+{}
+
+/// What a data text gives for a program without matrices is a valid input.
+pub fn plain_input_is_valid()
+    ensures { PlainInputIsValid }
+{}
+
+/// On what a data text gives for a program of the first form, the machine runs that program and the one that is written for
+/// it without a fault, and leaves each array of the signature the same behind both.
+pub fn first_form_runs_alike()
+    ensures { FirstFormRunsAlike }
+{}
+
+/// A data text for a loop that copies an array.
+pub fn worked_input()
+    ensures { WorkedInput }
+{}
+
+/// That loop, and the loop that is written for it, on that text.
+pub fn worked_runs()
+    ensures { WorkedRuns }
+{}
