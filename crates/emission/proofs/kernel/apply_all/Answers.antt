@@ -17,6 +17,6 @@ returns-in-Err-Refused-clause-refused c =
     let number : ℕ = c.loop-i.i + 1 in
     let a = subst (Answers c.loop-i.kernel c.index-commands-i.result) (c.in-Err-Refused.is ∙ ap Err c.in-Err-Refused.field-0-is) c.apply.ensures.answers in
     let n = is_next c.args.commands.now c.loop-i.i c.args.kernel.now c.loop-i.kernel c.index-commands-i.result c.in-Err-Refused.fault c.loop-i-test.true
-      c.index-commands-i.is c.loop-i.invariant.done a in
+    c.index-commands-i.is c.loop-i.invariant.done a in
     subst (λ (f : CommandFault). IsNext c.args.kernel.now c.args.commands.now number f c.apply.new.kernel) (sym c.in-Err-Refused.fault-is)
-      (subst (IsNext c.args.kernel.now c.args.commands.now number c.in-Err-Refused.fault) (sym c.in-Err-Refused.ensures.refused) n)
+    (subst (IsNext c.args.kernel.now c.args.commands.now number c.in-Err-Refused.fault) (sym c.in-Err-Refused.ensures.refused) n)
