@@ -29,7 +29,7 @@ use Rattle.acceptance_laws.specs.Scene.{IsBelow, AreExtents}
 use Rattle.scene_laws.proofs.Extents.{extent_value}
 
 -- ---- looking an array up
-named_in : (x : Name) (arrays : List Array) (a : Array) → array_named x arrays ≡ Some a → IsIn a arrays × (extents arrays x ≡ a.extents)
+pub named_in : (x : Name) (arrays : List Array) (a : Array) → array_named x arrays ≡ Some a → IsIn a arrays × (extents arrays x ≡ a.extents)
 named_in x [] a h = absurd cc
 named_in x (b ∷ bs) a h = by (bytes_eq b.name x) h (named_in x bs a)
   where
@@ -54,7 +54,7 @@ each_of P x [] h a = absurd a
 each_of P x (y ∷ ys) h (inl e) = subst P (sym e) h.0
 each_of P x (y ∷ ys) h (inr a) = each_of P x ys h.1 a
 
-not_large : (a : Array) (n : ℕ) (arrays : List Array) → large_extent n arrays ≡ None → IsIn a arrays → has_large a.extents ≡ false
+pub not_large : (a : Array) (n : ℕ) (arrays : List Array) → large_extent n arrays ≡ None → IsIn a arrays → has_large a.extents ≡ false
 not_large a n [] h k = absurd k
 not_large a n (b ∷ bs) h k = by (has_large b.extents) refl h k (not_large a (n + 1) bs)
   where

@@ -49,7 +49,7 @@ in_line (z ∷ y ∷ x ∷ []) l h =
     none y h = let b = between y (pos 1) h in omega (arith, ints, b)
 
 -- ---- what the rules say of each matrix
-has-in : (xs : List Name) (x : Name) → has xs x ≡ true → IsIn x xs
+pub has-in : (xs : List Name) (x : Name) → has xs x ≡ true → IsIn x xs
 has-in [] x h = absurd cc
 has-in (y ∷ ys) x h = by (bytes_eq y x) refl h (has-in ys x)
   where
@@ -95,7 +95,7 @@ module _ (m : Matrix) (i : Input) (k : IsMatrix m i) where
       let c = subst (λ (z : ℤ). begin (pos n) ≤ℤ begin z) e b in
       omega (arith, ints, a, c)
 
-  begins_within : (z : ℤ) → pos 0 ≤ℤ z → z <ℤ (i.value m.rows +ℤ pos 1) → (pos 0 ≤ℤ begin z) × (begin z ≤ℤ i.value m.count)
+  pub begins_within : (z : ℤ) → pos 0 ≤ℤ z → z <ℤ (i.value m.rows +ℤ pos 1) → (pos 0 ≤ℤ begin z) × (begin z ≤ℤ i.value m.count)
   begins_within (pos n) a b = by (i.value m.rows) refl
     where
       by : (r : ℤ) → i.value m.rows ≡ r → (pos 0 ≤ℤ begin (pos n)) × (begin (pos n) ≤ℤ i.value m.count)
