@@ -20,15 +20,8 @@ use Rattle.first_laws.proofs.Programs.{same_signature, runs_alike}
 use Rattle.first_laws.proofs.Quiet.{is_fine}
 use Rattle.input_laws.specs.Inputs.{input_of, Reads, RunsAsDefined}
 use Rattle.input_laws.specs.Alike.{RunAlikeOn}
-use Rattle.input_laws.proofs.Starts.{parameters_valid, extents_valid, numbers_valid, starts, runs}
-
-pub plain_valid : (p : Program) (text : List ℕ) (g : Given) → p.matrices ≡ [] → Reads p text g → IsValid p (input_of g)
-plain_valid p text g none r = record {
-  parameters = parameters_valid p text g r;
-  extents = extents_valid p text g r;
-  numbers = numbers_valid p text g r;
-  matrices = subst (λ (ms : List Matrix). AllByRecursion (λ m. IsMatrix m (input_of g)) ms) (sym none) tt;
-}
+use Rattle.input_laws.proofs.Matrices.{input_valid}
+use Rattle.input_laws.proofs.Starts.{starts, runs}
 
 -- a text says the same for both
 same_says : (p q : Program) (text : List ℕ) → HasSameSignature p q → says q text ≡ says p text
@@ -57,7 +50,7 @@ Same arrays m m' = AllByRecursion (λ a. HasSameCells a m m') arrays
 pub alike : (p q : Program) (text : List ℕ) (g : Given) → written p ≡ Some q → Reads p text g → RunAlikeOn p q text g
 alike p q text g w r =
     let s : HasSameSignature p q = same_signature p q w in
-    let fine : IsFine p (input_of g) = is_fine p q (input_of g) w (plain_valid p text g s.no_matrix r) in
+    let fine : IsFine p (input_of g) = is_fine p q (input_of g) w (input_valid p text g r) in
     let both : RunsAlike p q (input_of g) = runs_alike p q (input_of g) w in
     let old : RunsAsDefined p g = runs p text g r in
     let new : RunsAsDefined q g = written_runs p q text g s r in

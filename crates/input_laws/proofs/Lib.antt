@@ -1,5 +1,7 @@
 pub mod Tables
-pub mod Starts
-pub mod Examples
-pub mod Alike
 pub mod Rows
+pub mod Starts
+pub mod Matrices
+pub mod Alike
+pub mod Examples
+pub mod Entries

@@ -2,13 +2,12 @@
 use Rattle.std.specs.Prelude.{◌≡◌, ℕ, List, [], Ok, Some}
 use Rattle.std.specs.List.{AllByRecursion}
 use Rattle.c_tree.specs.declared.program.Program.{Program}
-use Rattle.c_meaning.specs.Inputs.{IsValid}
 use Rattle.c_meaning.specs.Programs.{HasSameCells}
 use Rattle.csr_data.specs.Lines.{Given}
 use Rattle.csr_data.specs.Matrices.{says}
 use Rattle.first_form.specs.Written.{written}
 use Rattle.program_run.specs.Runs.{executed, IsDone}
-use Rattle.input_laws.specs.Inputs.{input_of, Reads}
+use Rattle.input_laws.specs.Inputs.{Reads}
 
 -- the text gives both programs the same values; the machine runs both without a fault, and leaves each array the same behind both
 pub record RunAlikeOn (p q : Program) (text : List ℕ) (g : Given) : Type 0 where
@@ -19,7 +18,3 @@ pub record RunAlikeOn (p q : Program) (text : List ℕ) (g : Given) : Type 0 whe
 
 abbrev pub FirstFormRunsAlike : Type 0
 FirstFormRunsAlike = (p q : Program) (text : List ℕ) (g : Given) → written p ≡ Some q → Reads p text g → RunAlikeOn p q text g
-
--- without matrices, what a text gives is a valid input
-abbrev pub PlainInputIsValid : Type 0
-PlainInputIsValid = (p : Program) (text : List ℕ) (g : Given) → p.matrices ≡ [] → Reads p text g → IsValid p (input_of g)

@@ -6,7 +6,7 @@ use Rattle.c_tree.specs.declared.program.Program.{Program}
 use Rattle.c_grammar.specs.Program.{IsProgram}
 use Rattle.c_judge.specs.Rules.{KeepsRules}
 use Rattle.c_meaning.specs.Memory.{Spot}
-use Rattle.c_meaning.specs.Inputs.{Input, IsParameter, HasExtents, start}
+use Rattle.c_meaning.specs.Inputs.{Input, IsParameter, HasExtents, IsValid, start}
 use Rattle.c_meaning.specs.Programs.{inspection, execution}
 use Rattle.c_walk.specs.State.{memory_in}
 use Rattle.csr_data.specs.Lines.{Given}
@@ -25,6 +25,10 @@ pub record Reads (p : Program) (text : List ℕ) (g : Given) : Type 0 where
   pub grammar : IsProgram tokens p
   pub rules : KeepsRules p
   pub says : says p text ≡ Ok g
+
+-- what a text gives is a valid input
+abbrev pub InputIsValid : Type 0
+InputIsValid = (p : Program) (text : List ℕ) (g : Given) → Reads p text g → IsValid p (input_of g)
 
 -- each parameter is in its range
 abbrev pub ParametersAreValid : Type 0

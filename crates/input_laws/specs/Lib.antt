@@ -2,3 +2,4 @@ pub mod Inputs
 pub mod Examples
 pub mod Alike
 pub mod Rows
+pub mod Entries

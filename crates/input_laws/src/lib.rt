@@ -2,10 +2,16 @@
 //! definitions on that input. Each function here carries one law as its contract.
 #![tactic(auto)]
 
-ghost use Rattle.input_laws.specs.Alike.{PlainInputIsValid, FirstFormRunsAlike};
+ghost use Rattle.input_laws.specs.Alike.{FirstFormRunsAlike};
+ghost use Rattle.input_laws.specs.Entries.{WorkedMatrix};
 ghost use Rattle.input_laws.specs.Examples.{WorkedInput, WorkedRuns};
-ghost use Rattle.input_laws.specs.Inputs.{ParametersAreValid, ExtentsAreValid, NumbersAreValid, SameStart, SameRuns};
+ghost use Rattle.input_laws.specs.Inputs.{InputIsValid, ParametersAreValid, ExtentsAreValid, NumbersAreValid, SameStart, SameRuns};
 ghost use Rattle.input_laws.specs.Rows.{NoneIsBroken, UnbrokenIsCsr};
+
+/// What a data text gives for a program that keeps the rules is a valid input of it.
+pub fn input_is_valid()
+    ensures { InputIsValid }
+{}
 
 /// Each parameter that a data text gives is in 0 to 2^24.
 pub fn parameters_are_valid()
@@ -42,11 +48,6 @@ pub fn same_runs()
     ensures { SameRuns }
 {}
 
-/// What a data text gives for a program without matrices is a valid input.
-pub fn plain_input_is_valid()
-    ensures { PlainInputIsValid }
-{}
-
 /// On what a data text gives for a program of the first form, the machine runs that program and the one that is written for
 /// it without a fault, and leaves each array of the signature the same behind both.
 pub fn first_form_runs_alike()
@@ -61,4 +62,9 @@ pub fn worked_input()
 /// That loop, and the loop that is written for it, on that text.
 pub fn worked_runs()
     ensures { WorkedRuns }
+{}
+
+/// A data text with a matrix of one row and two entries.
+pub fn worked_matrix()
+    ensures { WorkedMatrix }
 {}

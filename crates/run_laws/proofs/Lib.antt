@@ -1,5 +1,6 @@
 pub mod Choices
 pub mod Found
+pub mod Matrices
 pub mod Agreement
 pub mod Declared
 pub mod Divisors

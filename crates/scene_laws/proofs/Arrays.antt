@@ -1,6 +1,6 @@
 -- The arrays of an accepted program on a valid input: their extents are the values of forms, below which all cells lie.
-use Rattle.std.proofs.Common.{◌≡◌, inl, inr, ℕ, suc, ◌+◌, ◌≤◌, ◌<◌, ◌^◌, Bool, true, false, ◌&&◌, cond, nat_lt, List, [], ◌∷◌, ◌++◌, map, length, Option, Some, None, Ok, Err, refl, sym, ◌∙◌, ap, subst, arith, ℤ, pos, negsuc, ◌≤ℤ◌, ◌<ℤ◌, append_assoc}
-use Rattle.std.specs.Prelude.{bytes_eq, is_some, if◌then◌else◌, slice_get, int_le, int_lt, nat_le}
+use Rattle.std.proofs.Common.{◌≡◌, inl, inr, ℕ, suc, ◌+◌, ◌≤◌, ◌<◌, ◌^◌, Bool, true, false, ◌&&◌, cond, nat_lt, List, [], ◌∷◌, ◌++◌, map, length, Option, Some, None, Ok, refl, sym, ◌∙◌, ap, subst, arith, ℤ, pos, negsuc, ◌≤ℤ◌, ◌<ℤ◌, append_assoc}
+use Rattle.std.specs.Prelude.{bytes_eq, is_some, if◌then◌else◌, slice_get, int_le, int_lt}
 use Rattle.std.specs.List.{list_all, AllByRecursion}
 use Rattle.std.proofs.lemmas.Bool.Decides.{nat_tests}
 use Rattle.std.proofs.lemmas.Int.{ints}
@@ -11,17 +11,16 @@ use Rattle.int_rows.specs.declared.row.Aff.{Aff}
 use Rattle.c_judge.specs.declared.faults.LimitWhat.TheVariants as what
 use Rattle.c_judge.specs.declared.faults.ProgramFault.TheVariants as fault
 use Rattle.c_judge.specs.Limits.{size_of, has_large, large_extent}
-use Rattle.c_meaning.specs.declared.fault.EvalFault.TheVariants.{Range}
 use Rattle.c_meaning.specs.Inputs as inputs
 use Rattle.c_meaning.specs.Inputs.{Input, array_named, sight_of_parameters, extents_in, declared_extents, three_of, start, IsValid}
 use Rattle.c_meaning.specs.Listing.{Scene, scene_of}
 use Rattle.c_meaning.specs.Names.{Name}
-use Rattle.c_meaning.specs.Value.{Answer, ◌>>=◌, is_inside, judged_answer, measure, value_of, values_of}
-use Rattle.c_meaning.specs.Weighed.{Weighed, greatest}
+use Rattle.c_meaning.specs.Value.{is_inside, measure, value_of, values_of}
 use Rattle.nest_tree.specs.Forms.{value}
 use Rattle.nest_tree.specs.Lists.{IsIn, Pairwise}
 use Rattle.nest_laws.specs.Acts.{three}
 use Rattle.nest_systems.specs.Extents.{extent_form}
+use Rattle.run_laws.proofs.Matrices.{from_value, two_values}
 use Rattle.acceptance.specs.Accepted.{has_affine_extents}
 use Rattle.acceptance.specs.Inside.{extent_at}
 use Rattle.acceptance.specs.Limits.{extents}
@@ -30,7 +29,7 @@ use Rattle.acceptance_laws.specs.Scene.{IsBelow, AreExtents}
 use Rattle.scene_laws.proofs.Extents.{extent_value}
 
 -- ---- looking an array up
-named_in : (x : Name) (arrays : List Array) (a : Array) → array_named x arrays ≡ Some a → IsIn a arrays × (extents arrays x ≡ a.extents)
+pub named_in : (x : Name) (arrays : List Array) (a : Array) → array_named x arrays ≡ Some a → IsIn a arrays × (extents arrays x ≡ a.extents)
 named_in x [] a h = absurd cc
 named_in x (b ∷ bs) a h = by (bytes_eq b.name x) h (named_in x bs a)
   where
@@ -55,7 +54,7 @@ each_of P x [] h a = absurd a
 each_of P x (y ∷ ys) h (inl e) = subst P (sym e) h.0
 each_of P x (y ∷ ys) h (inr a) = each_of P x ys h.1 a
 
-not_large : (a : Array) (n : ℕ) (arrays : List Array) → large_extent n arrays ≡ None → IsIn a arrays → has_large a.extents ≡ false
+pub not_large : (a : Array) (n : ℕ) (arrays : List Array) → large_extent n arrays ≡ None → IsIn a arrays → has_large a.extents ≡ false
 not_large a n [] h k = absurd k
 not_large a n (b ∷ bs) h k = by (has_large b.extents) refl h k (not_large a (n + 1) bs)
   where
@@ -65,19 +64,6 @@ not_large a n (b ∷ bs) h k = by (has_large b.extents) refl h k (not_large a (n
     by false e h (inr d) more = more h d
 
 -- ---- the values of its extents
-pub from_value : (a : Answer Weighed) (v : ℤ) → judged_answer a ≡ Ok v → (w : Weighed) × (a ≡ Ok w) × (w.value ≡ v)
-from_value (Err e) v h = absurd cc
-from_value (Ok w) v h = by (nat_le w.weight greatest) h
-  where
-    by : (t : Bool) → (if t then Ok w.value else Err Range) ≡ Ok v → (u : Weighed) × ((let o : Answer Weighed = Ok w in o) ≡ Ok u) × (u.value ≡ v)
-    by true h = (w, refl, cc)
-    by false h = absurd cc
-
-pub two_values : (a : Answer ℤ) (b : Answer (List ℤ)) (vs : List ℤ) → (a >>= (λ v. b >>= (λ us. Ok (v ∷ us)))) ≡ Ok vs → (v : ℤ) × (us : List ℤ) × (a ≡ Ok v) × (b ≡ Ok us) × (vs ≡ v ∷ us)
-two_values (Ok v) (Ok us) vs h = (v, us, refl, refl, cc)
-two_values (Ok v) (Err e) vs h = absurd cc
-two_values (Err e) b vs h = absurd cc
-
 module _ (p : Program) (i : Input) (apart : AreApart p.params) where
   abbrev HasForm : Index → Aff → Type 0
   HasForm e f = extent_form p.params e ≡ Some f

@@ -5,4 +5,5 @@ pub mod Arrays
 pub mod Cells
 pub mod Matrices
 pub mod Laws
+pub mod Ranged
 pub mod Examples

@@ -1,3 +1,4 @@
 pub mod Rules
 pub mod Inputs
+pub mod Ranged
 pub mod Examples

@@ -3,6 +3,7 @@
 
 ghost use Rattle.scene_laws.specs.Examples.{WorkedScene};
 ghost use Rattle.scene_laws.specs.Inputs.{RulesNameCells, ValidInputIsScene, AcceptedIsFineOnInputs};
+ghost use Rattle.scene_laws.specs.Ranged.{ValidInputIsRanged};
 ghost use Rattle.scene_laws.specs.Rules.{RulesScopeNames};
 
 /// The rules bring the names of an executor into scope.
@@ -18,6 +19,11 @@ pub fn rules_name_cells()
 /// A valid input keeps the ranges that acceptance counts on.
 pub fn valid_input_is_scene()
     ensures { ValidInputIsScene }
+{}
+
+/// On a valid input parameters and extents are at least 0, and each cell of an index array lies in the range that systems say of it.
+pub fn valid_input_is_ranged()
+    ensures { ValidInputIsRanged }
 {}
 
 /// Nothing in an accepted executor has a fault on a valid input, wherever its systems are met at points.
