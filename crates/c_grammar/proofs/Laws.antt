@@ -6,10 +6,13 @@ use Rattle.c_tokens.specs.declared.token.Token.{Token}
 use Rattle.c_tokens.specs.Tokens.{Outcome}
 use Rattle.c_tree.specs.declared.program.Program.{Program}
 use Rattle.c_grammar.specs.Program.{IsProgram}
-use Rattle.c_grammar.specs.Texts.{IsNoText, IsNoWayOn, IsWrong}
+use Rattle.c_grammar.specs.Texts.{IsNoText, BeginsText, IsNoWayOn, IsWrong}
 use Rattle.c_grammar.specs.ReadProgram as r
 use Rattle.c_grammar.proofs.Local.{Local, stands, moved, value_is}
 use Rattle.c_grammar.proofs.LocalProgram.{program_local}
+use Rattle.c_grammar.proofs.SoundProgram.{program_sound}
+use Rattle.c_grammar.proofs.Ending.{front_is}
+use Rattle.c_grammar.proofs.EndingProgram.{program_ends}
 use Rattle.c_grammar.proofs.CompleteProgram.{reads_program}
 
 -- a text has at most one tree
@@ -43,6 +46,15 @@ stood : (o : Outcome Program) (rest : List Token) → StandsBefore o rest → st
 stood (Ok p) rest h = h.0
 stood (Err ts) rest h = h
 
+-- some text begins with what the reader takes
+begins_text : (ts : List Token) (l : Local r.program ts (r.program ts)) → BeginsText l.front
+begins_text ts l =
+    let w = program_ends ts in
+    let k = w.ending in
+    let e : w.local.front ≡ l.front = front_is w.local l.front l.parts in
+    let reads : r.program (l.front ++ (k.more ++ [])) ≡ Ok (k.value, []) = subst (λ (z : List Token). r.program (z ++ (k.more ++ [])) ≡ Ok (k.value, [])) e (k.done [] refl) in
+    (k.more ++ [], k.value, program_sound (l.front ++ (k.more ++ [])) k.value reads)
+
 -- where the reader stands, no text goes on
 pub stands_wrong : (ts rest : List Token) → StandsBefore (r.program ts) rest → IsWrong ts (length ts - length rest + 1)
 stands_wrong ts rest h =
@@ -55,6 +67,7 @@ stands_wrong ts rest h =
       rest = rest;
       parts = parts;
       number = omega (arith, size);
+      begins = begins_text ts l;
       wrong = no_way_on ts l rest e (leaves_text ts rest (r.program ts) refl h);
     }
 

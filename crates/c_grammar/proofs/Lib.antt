@@ -12,4 +12,9 @@ pub mod CompleteStatement
 pub mod SoundStatement
 pub mod CompleteProgram
 pub mod SoundProgram
+pub mod Ending
+pub mod EndingIndex
+pub mod EndingData
+pub mod EndingStatement
+pub mod EndingProgram
 pub mod Laws

@@ -150,19 +150,21 @@ module _ (room : Option (Reader Index)) (room_local : RoomIsLocal room) where
       by_token None = refuse_local
       by_token _ = other
 
+  pub after_number_local : (n : ℤ) → IsLocal (r.after_number room n)
+  unfolding r.after_number
+  after_number_local n = choice_local (is_sign s.Star) (skip >>= (λ _. r.factor room >>= (λ e. pure (tree.Times n e)))) (pure (tree.Const n)) (bind_local skip _ skip_local (λ _. bind_local _ _ factor_local (λ e. pure_local (tree.Times n e)))) (pure_local (tree.Const n))
+
+  pub after_factor_local : (e : Index) → IsLocal (r.after_factor room e)
+  unfolding r.after_factor
+  after_factor_local e = choice_local (is_sign s.Star) (skip >>= (λ _. constant >>= (λ n. pure (tree.Times n e)))) (pure e) (bind_local skip _ skip_local (λ _. bind_local _ _ constant_local (λ n. pure_local (tree.Times n e)))) (pure_local e)
+
   pub part_local : IsLocal (r.part room)
-  unfolding r.part r.after_number r.after_factor
+  unfolding r.part
   part_local = bind_local peek (r.part_by room) peek_local by_token
     where
-      after_number : (n : ℤ) → IsLocal (r.after_number room n)
-      after_number n = choice_local (is_sign s.Star) (skip >>= (λ _. r.factor room >>= (λ e. pure (tree.Times n e)))) (pure (tree.Const n)) (bind_local skip _ skip_local (λ _. bind_local _ _ factor_local (λ e. pure_local (tree.Times n e)))) (pure_local (tree.Const n))
-
-      after_factor : (e : Index) → IsLocal (r.after_factor room e)
-      after_factor e = choice_local (is_sign s.Star) (skip >>= (λ _. constant >>= (λ n. pure (tree.Times n e)))) (pure e) (bind_local skip _ skip_local (λ _. bind_local _ _ constant_local (λ n. pure_local (tree.Times n e)))) (pure_local e)
-
       by_token : (o : Option Token) → IsLocal (r.part_by room o)
-      by_token (Some (t.Number n)) = bind_local constant _ constant_local after_number
-      by_token _ = bind_local (r.factor room) _ factor_local after_factor
+      by_token (Some (t.Number n)) = bind_local constant _ constant_local after_number_local
+      by_token _ = bind_local (r.factor room) _ factor_local after_factor_local
 
   plus_local : (left : Index) → IsLocal (r.part room >>= (λ right. pure (tree.Plus left right)))
   plus_local left = bind_local (r.part room) _ part_local (λ right. pure_local (tree.Plus left right))

@@ -68,11 +68,11 @@ module _ (b : ℕ) where
   extent_local : IsLocal (index.subscript (index.index b))
   extent_local = subscript_local (index.index b) (index_local b)
 
-  third_local : (i j : Index) → IsLocal (r.third_extent b i j)
+  pub third_local : (i j : Index) → IsLocal (r.third_extent b i j)
   unfolding r.third_extent
   third_local i j = choice_local (is_sign s.OpenSquare) (index.subscript (index.index b) >>= (λ k. pure (i ∷ j ∷ k ∷ []))) (pure (i ∷ j ∷ [])) (bind_local _ _ extent_local (λ k. pure_local (i ∷ j ∷ k ∷ []))) (pure_local (i ∷ j ∷ []))
 
-  second_local : (i : Index) → IsLocal (r.second_extent b i)
+  pub second_local : (i : Index) → IsLocal (r.second_extent b i)
   unfolding r.second_extent
   second_local i = choice_local (is_sign s.OpenSquare) (index.subscript (index.index b) >>= r.third_extent b i) (pure (i ∷ [])) (bind_local _ _ extent_local (third_local i)) (pure_local (i ∷ []))
 
@@ -84,7 +84,7 @@ module _ (b : ℕ) where
   unfolding r.positions
   positions_local x found = bind_local _ _ extent_local (λ i. pure_local (r.with_array found (record { name = x; kind = kind.Position; extents = i ∷ [] })))
 
-  position_local : (x : Word) (found : Signature) → IsLocal (r.position b x found)
+  pub position_local : (x : Word) (found : Signature) → IsLocal (r.position b x found)
   unfolding r.position
   position_local x found = choice_local (λ o. is_sign s.OpenSquare o || not (r.is_empty found.arrays)) (r.positions b x found) (pure (r.with_param found x)) (positions_local x found) (pure_local (r.with_param found x))
 
@@ -176,13 +176,13 @@ unfolding r.items
 items_local b =
     bind_local (r.item b []) _ (item_local b []) (λ p. bind_local (many (r.next_item b) (p.0 ∷ [], p.1)) _ (many_local (r.next_item b) (next_item_eats b) (next_item_local b) (p.0 ∷ [], p.1)) (λ found. pure_local found.0))
 
-inspected_local : (b : ℕ) → IsLocal (r.inspected b)
+pub inspected_local : (b : ℕ) → IsLocal (r.inspected b)
 unfolding r.inspected
 inspected_local b =
     bind_local _ _ (expect_local s.Pragma) (λ _. bind_local _ _ (word_local (codes "sparse")) (λ _. bind_local _ _ (word_local (codes "inspector")) (λ _. bind_local _ _ (items_local b) (λ xs.
     bind_local _ _ (expect_local s.Pragma) (λ _. bind_local _ _ (word_local (codes "sparse")) (λ _. bind_local _ _ (word_local (codes "executor")) (λ _. pure_local xs)))))))
 
-inspector_if_any_local : (b : ℕ) → IsLocal (r.inspector_if_any b)
+pub inspector_if_any_local : (b : ℕ) → IsLocal (r.inspector_if_any b)
 unfolding r.inspector_if_any
 inspector_if_any_local b = choice_local (is_sign s.Pragma) (r.inspected b) (pure []) (inspected_local b) (pure_local [])
 

@@ -17,10 +17,12 @@ abbrev pub IsNoWayOn : List Token → List Token → Type 0
 IsNoWayOn front [] = IsNoText front
 IsNoWayOn front (x ∷ rest) = BeginsText (front ++ x ∷ []) → ⊥
 
--- The token, counted from 1, is one with which no text goes on. The end counts as one more token.
+-- The token, counted from 1, is the first with which no text goes on: some text begins with those before it. The end
+-- counts as one more token.
 pub record IsWrong (ts : List Token) (token : ℕ) : Type 0 where
   pub front : List Token
   pub rest : List Token
   pub parts : ts ≡ front ++ rest
   pub number : token ≡ length front + 1
+  pub begins : BeginsText front
   pub wrong : IsNoWayOn front rest

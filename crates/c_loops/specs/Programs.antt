@@ -29,7 +29,8 @@ Reads wanted (Ok p) = wanted ≡ Ok p
 Reads wanted (Err (Refused fault)) = wanted ≡ Err fault
 Reads wanted (Err NoMemory) = Unit {0}
 
--- Why a text is refused: it isn't in the grammar, and no text goes on with that token; or its tree breaks this rule first.
+-- Why a text is refused: it isn't in the grammar, and that token is the first with which no text goes on; or its tree
+-- breaks this rule first.
 pub data IsCause (text : List ℕ) : ProgramFault → Type 0 where
   syntax : {token : ℕ} → IsNoText (tokens_of text) → IsWrong (tokens_of text) token → IsCause text (Syntax token)
   rule : {p : Program} {f : ProgramFault} → IsProgram (tokens_of text) p → fault_of p ≡ Some f → IsCause text f

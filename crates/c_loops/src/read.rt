@@ -13,7 +13,7 @@ use c_tree::Program;
 use chill_base::Stop;
 use std::alloc::Global;
 
-/// The first token, counted from 1, up to which no text of the language goes on. The end counts as one more token.
+/// The first token, counted from 1, with which no text of the language goes on. The end counts as one more token.
 #[derive(Clone, Copy, Debug, PartialEq, Eq, Drop)]
 pub struct SyntaxAt {
     pub token: usize,
@@ -62,7 +62,7 @@ pub fn read_tree(alloc: Global, text: &[u8]) -> Result<Program, Stop<SyntaxAt>>
     ensures sound { IfOk result (λ p. IsProgram (tokens_of text.now) p) }
     ensures only { IfOk result (λ p. (q : Program) → IsProgram (tokens_of text.now) q → q ≡ p) }
 
-    // What is refused is no text, and none goes on with the token.
+    // What is refused is no text: some text begins with the tokens before the token, and none goes on with it.
     ensures refused { IfRefused result (λ at. IsNoText (tokens_of text.now)) }
     ensures token { IfRefused result (λ at. IsWrong (tokens_of text.now) at.token) }
 {
