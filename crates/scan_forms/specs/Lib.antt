@@ -3,3 +3,4 @@ pub mod Forms
 pub mod Bounds
 pub mod Reads
 pub mod Sums
+pub mod Placed

@@ -1,5 +1,5 @@
 -- Numbers of forms; a list of them has 0 behind its end.
-use Rattle.std.specs.Prelude.{ℕ, Bool, List, [], ◌∷◌, ℤ, pos, ◌+ℤ◌, ◌-ℤ◌, ◌&&◌, slice_index_or}
+use Rattle.std.specs.Prelude.{ℕ, suc, ◌-◌, Bool, List, [], ◌∷◌, ◌++◌, length, replicate, ℤ, pos, ◌+ℤ◌, ◌-ℤ◌, ◌&&◌, slice_index_or, slice_set}
 use Rattle.std.specs.Int.{w128, saturate_signed}
 use Rattle.std.specs.Ordering.{int_eq}
 use Rattle.std.specs.List.{list_all}
@@ -25,3 +25,14 @@ opposite z = saturate_signed w128 (pos 0 -ℤ z)
 
 abbrev pub next : ℤ → ℤ
 next z = saturate_signed w128 (z +ℤ pos 1)
+
+abbrev pub plus : ℤ → ℤ → ℤ
+plus a b = saturate_signed w128 (a +ℤ b)
+
+-- zeros up to a place, where there are fewer numbers
+unfoldable pub padded : ℕ → List ℤ → List ℤ
+padded at zs = zs ++ replicate (suc at - length zs) (pos 0)
+
+-- a number more at a place
+abbrev pub added_at : ℕ → ℤ → List ℤ → List ℤ
+added_at at z zs = slice_set (padded at zs) at (plus (number_at at (padded at zs)) z)

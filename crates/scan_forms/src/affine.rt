@@ -1,6 +1,6 @@
 // Forms over what a scan speaks of: the parameters, the levels, and the reads of a table. Behind its last number each list
 // of numbers has 0.
-ghost use Rattle.std.specs.Prelude.{◌≡◌, ◌≤◌, length, map, not, IfOk};
+ghost use Rattle.std.specs.Prelude.{◌≡◌, ◌≤◌, length, map, not, IfOk, OnOk};
 ghost use Rattle.scan_forms.specs.Numbers as spec;
 ghost use Rattle.scan_forms.specs.Forms as forms;
 
@@ -161,14 +161,29 @@ fn opposites(alloc: Global, numbers: &[i128]) -> Result<List<i128>, NoMemory>
     Ok(list)
 }
 
-/// Adds to the number at a place.
-pub fn add_at(numbers: &mut List<i128>, at: usize, number: i128) -> Result<(), NoMemory> {
-    for _ in numbers.len()..at.saturating_add(1) {
+/// Appends zeros up to a place, where there are fewer numbers.
+fn pad(numbers: &mut List<i128>, at: usize) -> Result<(), NoMemory>
+    ensures { OnOk result (numbers.new ≡ spec.padded at numbers.old) }
+{
+    while numbers.len() <= at {
         numbers.push(0)?;
     }
-    if at < numbers.len() {
-        let sum = number_at(numbers.as_slice(), at).saturating_add(number);
-        numbers.set(at, sum);
-    }
+    Ok(())
+}
+
+fn plus(a: i128, b: i128) -> i128
+    ensures { result ≡ spec.plus a b }
+{
+    a.saturating_add(b)
+}
+
+/// Adds to the number at a place.
+#[tactic(auto, using(crate::proofs::Padding::padded_past))]
+pub fn add_at(numbers: &mut List<i128>, at: usize, number: i128) -> Result<(), NoMemory>
+    ensures { OnOk result (numbers.new ≡ spec.added_at at number numbers.old) }
+{
+    pad(numbers, at)?;
+    let sum = plus(number_at(numbers.as_slice(), at), number);
+    numbers.set(at, sum);
     Ok(())
 }

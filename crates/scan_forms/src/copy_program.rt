@@ -9,8 +9,9 @@ use tree_copies::{copy_cell, copy_expr, copy_index, copy_indexes};
 fn copy_test(alloc: Global, test: &Test) -> Result<Test, NoMemory>
     ensures { IfOk result (λ copy. copy ≡ test.now) }
 {
+    let left = copy_index(alloc, &test.left)?;
     Ok(Test {
-        left: copy_index(alloc, &test.left)?,
+        left,
         cmp: test.cmp,
         right: copy_index(alloc, &test.right)?,
     })

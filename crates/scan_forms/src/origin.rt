@@ -1,7 +1,8 @@
 // Forms of statements and of systems become forms over what a scan speaks of.
-ghost use Rattle.std.specs.Prelude.{◌≤◌, ◌<◌, length, IsTrue, IfOk};
+ghost use Rattle.std.specs.Prelude.{◌≡◌, ◌≤◌, ◌<◌, length, take, drop, IsTrue, IfOk};
 ghost use Rattle.std.specs.List.{list_all};
 ghost use Rattle.scan_forms.specs.Reads.{term_has_places};
+ghost use Rattle.scan_forms.specs.Placed.{IsOutside};
 
 use crate::affine::{Affine, add_at, number_at};
 use crate::claim::Claim;
@@ -21,8 +22,11 @@ pub struct Origin<'a> {
     pub further: &'a [Term],
 }
 
-/// The numbers up to a place, and those behind it.
-fn halves(numbers: &[i128], at: usize) -> (&[i128], &[i128]) {
+/// The numbers up to a place, and those behind it; where there are fewer, all of them and none.
+fn halves(numbers: &[i128], at: usize) -> (&[i128], &[i128])
+    ensures first { result.0.now ≡ take at numbers.now }
+    ensures behind { result.1.now ≡ drop at numbers.now }
+{
     numbers.split_at(at.min(numbers.len()))
 }
 
@@ -44,7 +48,8 @@ fn place_to(
 ) -> Result<Affine, NoMemory>
     requires terms { IsTrue (list_all term_has_places origin.terms.now) }
     requires further { IsTrue (list_all term_has_places origin.further.now) }
-    ensures { length table.old.reads ≤ length table.new.reads }
+    ensures grown { length table.old.reads ≤ length table.new.reads }
+    ensures outside { IfOk result (λ placed. IsOutside origin.entry.params origin.entry.levels form.now placed) }
 {
     let (params, rest) = halves(form.coefs.as_slice(), origin.params);
     let (levels, numbers) = halves(rest, origin.levels);
@@ -147,7 +152,8 @@ pub fn place(
 ) -> Result<Affine, NoMemory>
     requires terms { IsTrue (list_all term_has_places origin.terms.now) }
     requires further { IsTrue (list_all term_has_places origin.further.now) }
-    ensures { length table.old.reads ≤ length table.new.reads }
+    ensures grown { length table.old.reads ≤ length table.new.reads }
+    ensures outside { IfOk result (λ placed. IsOutside origin.entry.params origin.entry.levels form.now placed) }
 {
     place_to(alloc, table, origin, form, origin.depth())
 }
@@ -177,7 +183,9 @@ pub fn place_row(
 ) -> Result<Claim, NoMemory>
     requires terms { IsTrue (list_all term_has_places origin.terms.now) }
     requires further { IsTrue (list_all term_has_places origin.further.now) }
-    ensures { length table.old.reads ≤ length table.new.reads }
+    ensures grown { length table.old.reads ≤ length table.new.reads }
+    ensures kind { IfOk result (λ claim. claim.equal ≡ row.now.equal) }
+    ensures outside { IfOk result (λ claim. IsOutside origin.entry.params origin.entry.levels row.now.form claim.form) }
 {
     Ok(Claim {
         equal: row.equal,
