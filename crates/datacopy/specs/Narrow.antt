@@ -1,6 +1,7 @@
 -- The variables of a copying statement, and its rows.
 use Rattle.std.specs.Prelude.{◌≡◌, ℕ, ◌+◌, ◌≤◌, ◌<◌, ◌^◌, IsTrue, nat_lt, List, length, Option, Some, None}
 use Rattle.std.specs.List.{list_all}
+use Rattle.c_tree.specs.declared.statement.How.TheVariants.{Write}
 use Rattle.nest_tree.specs.declared.kernel.KernelRow.{KernelRow}
 use Rattle.nest_tree.specs.declared.kernel.Nest.{Nest}
 use Rattle.nest_tree.specs.declared.kernel.Term.{Term}
@@ -54,5 +55,6 @@ pub record IsCopying (w : Narrow) (rs : List KernelRow) (ts : List Term) (to fro
   pub terms : n.terms ≡ ts
   pub rows : n.rows ≡ rs
   pub target : n.target ≡ to
+  pub how : n.how ≡ Write
   pub value : n.value ≡ At from
   pub whole : n.whole ≡ None
