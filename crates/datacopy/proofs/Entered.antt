@@ -1,13 +1,13 @@
 -- The kernel with a copy has the shapes of kernels.
-use Rattle.std.proofs.Common.{◌≡◌, ℕ, suc, arith, ◌≤◌, ◌<◌, List, [], ◌∷◌, length, refl}
-use Rattle.std.specs.Prelude.{ℤ}
+use Rattle.std.proofs.Common.{◌≡◌, ℕ, suc, arith, ◌≤◌, ◌<◌, List, [], ◌∷◌, length, refl, sym, subst}
+use Rattle.std.specs.Prelude.{ℤ, Result, Ok, Err, OnOk}
 use Rattle.std.specs.List.{AllByRecursion}
 use Rattle.c_tree.specs.declared.program.Program.{Program}
 use Rattle.c_tree.specs.declared.statement.Stmt.{Stmt}
 use Rattle.nest_tree.specs.declared.kernel.Kernel.{Kernel}
 use Rattle.nest_tree.specs.declared.kernel.Nest.{Nest}
 use Rattle.nest_core.specs.Shapes.{IsShapedNest, IsShaped}
-use Rattle.datacopy.specs.Copied.{with_lines, lines_of, entered, IsCopied, AreCounted}
+use Rattle.datacopy.specs.Copied.{with_lines, lines_of, entered, IsCopied, HasCopyAt, AreCounted}
 
 -- a statement's shape doesn't speak of the inspector
 module _ (head : Program) (ls : List Stmt) where
@@ -35,5 +35,10 @@ module _ (k new : Kernel) (copy : List ℕ) (extents : List ℤ) (nests : List N
     counted = c.counted;
   })
 
-  pub entered-copied : 1 ≤ length extents → AreCounted k.head (suc (length k.nests)) nests → IsCopied k new copy
-  entered-copied some c = rw is (record { extents = extents; some = some; is = refl; more = c.many })
+-- with the statements that have the copy
+pub is-copied : {E : Type 0} (r : Result (Unit {0}) E) (k new : Kernel) (s level : ℕ) (array copy : List ℕ) (extents : List ℤ) (nests : List Nest) (dims : ℕ)
+    → 1 ≤ length extents → length extents ≡ dims → HasCopyAt k s level dims array copy nests → AreCounted k.head (suc (length k.nests)) nests → OnOk r (new ≡ entered k copy extents nests)
+    → OnOk r (IsCopied k new s level array copy)
+is-copied (Ok u) k new s level array copy extents nests dims some d has c is =
+    rw is (record { extents = extents; some = some; is = refl; more = c.many; statements = subst (λ (n : ℕ). HasCopyAt k s level n array copy nests) (sym d) has })
+is-copied (Err e) k new s level array copy extents nests dims some d has c is = tt

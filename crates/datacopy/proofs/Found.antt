@@ -1,7 +1,8 @@
 -- The box of a statement that was found.
-use Rattle.std.proofs.Common.{◌≡◌, ℕ, zero, suc, arith, ◌≤◌, ◌<◌, Bool, true, false, ◌&&◌, not, cond, nat_le, List, [], ◌∷◌, length, get_or, refl, ◌∙◌, leb-true}
+use Rattle.std.proofs.Common.{◌≡◌, ℕ, zero, suc, arith, ◌≤◌, ◌<◌, Bool, true, false, ◌&&◌, not, cond, nat_le, List, [], ◌∷◌, length, get_or, ◌-◌, refl, sym, ap, ◌∙◌, leb-true}
 use Rattle.std.specs.Prelude.{Result, Ok, Err, Option, Some, None, IfOk, IsTrue, slice_get}
 use Rattle.std.specs.List.{list_all}
+use Rattle.std.proofs.lemmas.Option.{slice_get-get_or}
 use Rattle.std.specs.declared.alloc.Global.{Global}
 use Rattle.std.specs.declared.vec.Vec.{Vec}
 use Rattle.chill_base.specs.declared.faults.Stop.{Stop}
@@ -11,7 +12,7 @@ use Rattle.nest_tree.specs.declared.kernel.Nest.{Nest}
 use Rattle.nest_core.specs.Shapes.{vars_of}
 use Rattle.datacopy.specs.declared.side.Side.{Side}
 use Rattle.datacopy.specs.Boxes.{is_side_over, has_subscripts, IsReadBox}
-use Rattle.datacopy.specs.Copied.{nest_shape}
+use Rattle.datacopy.specs.Copied.{nest_shape, HasCopy, HasCopyAt}
 use Rattle.datacopy.specs.Reads.{reads_of}
 
 cond-none : (b : Bool) (why : ShapeWhy) (o : Option ShapeWhy) → cond b (Some why) o ≡ None → b ≡ false
@@ -47,3 +48,13 @@ pub found-same : {A : Type 0} (xs : List A) (i : ℕ) (x y : A) → slice_get xs
 found-same [] i x y e d = absurd cc
 found-same (z ∷ xs) zero x y e d = let same : z ≡ y = cc in d ∙ same
 found-same (z ∷ xs) (suc i) x y e d = found-same xs i x y e d
+
+-- what is said of the statement at hand is said of the one with its number
+pub has-copy : {E : Type 0} (k : Kernel) (ns : List Nest) (s level dims : ℕ) (array copy : List ℕ) (n : Nest) (r : Result (List Nest) E) → ns ≡ k.nests → s < length k.nests → n ≡ get_or ns s n
+    → IfOk r (λ new. HasCopy k s n (level - 1) dims array copy new) → IfOk r (λ new. HasCopyAt k s level dims array copy new)
+has-copy k ns s level dims array copy n (Ok new) same l is has = record {
+  old = n;
+  found = slice_get-get_or k.nests s n l ∙ ap (λ (m : Nest). Some m) (sym (is ∙ ap (λ (xs : List Nest). get_or xs s n) same));
+  has = has;
+}
+has-copy k ns s level dims array copy n (Err e) same l is has = tt

@@ -1,5 +1,5 @@
 -- How many variables forms have.
-use Rattle.std.proofs.Common.{◌≡◌, ℕ, ◌+◌, ◌≤◌, arith, length, List, ◌∷◌, [], ◌++◌, Bool, true, false, ◌&&◌, ◌||◌, not, nat_eq, nat_le, refl, ap, eq-eqb, eqb-true, le-leb, length-append}
+use Rattle.std.proofs.Common.{◌≡◌, ℕ, suc, ◌+◌, ◌≤◌, arith, length, List, ◌∷◌, [], ◌++◌, Bool, true, false, ◌&&◌, ◌||◌, not, nat_eq, nat_le, refl, ap, ℤ, pos, map, eq-eqb, eqb-true, le-leb, length-append}
 use Rattle.std.specs.Prelude.{Ok, IsTrue}
 use Rattle.std.specs.List.{list_all}
 use Rattle.std.proofs.lemmas.List.Folds.{list_all-append}
@@ -8,6 +8,7 @@ use Rattle.nest_tree.specs.declared.kernel.KernelRow.{KernelRow}
 use Rattle.nest_core.specs.Forms.{has_vars, judged_form}
 use Rattle.nest_core.specs.Shapes.{is_row_over}
 use Rattle.nest_core.proofs.Kept.{judged-width}
+use Rattle.nest_systems.specs.Ranges.{Names, coef_of, of_two, of_one}
 
 -- a form that is judged keeps its width
 pub judged_kept : (n : ℕ) (f g : Aff) → IsTrue (has_vars n f) → judged_form f ≡ Ok g → IsTrue (has_vars n g)
@@ -15,6 +16,15 @@ judged_kept n f g w e = judged-width n f g w e
 
 pub judged_length : (f g : Aff) → judged_form f ≡ Ok g → length g.coefs ≡ length f.coefs
 judged_length f g e = eqb-true (length g.coefs) (length f.coefs) (judged-width (length f.coefs) f g (eq-eqb (length f.coefs) (length f.coefs) refl) e)
+
+as-many : {A B : Type 0} (f : A → B) (xs : List A) → length (map f xs) ≡ length xs
+as-many f [] = refl
+as-many f (x ∷ xs) = ap suc (as-many f xs)
+
+-- a parameter and a constant are a form over the parameters
+pub one_width : (params : Names) (a : List ℕ) (z : ℤ) → IsTrue (has_vars (length params) (of_one params a z))
+unfolding of_one of_two
+one_width params a z = eq-eqb (length (map (coef_of a (pos 1) a (pos 0)) params)) (length params) (as-many (coef_of a (pos 1) a (pos 0)) params)
 
 -- one more that passes
 pub all_more : {A : Type 0} (p : A → Bool) (xs new : List A) (x : A) → new ≡ xs ++ x ∷ [] → IsTrue (list_all p xs) → IsTrue (p x) → IsTrue (list_all p new)

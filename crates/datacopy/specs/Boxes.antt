@@ -5,7 +5,6 @@ use Rattle.nest_tree.specs.declared.kernel.Kernel.{Kernel}
 use Rattle.nest_core.specs.Shapes.{vars_of}
 use Rattle.datacopy.specs.Reads.{reads_of}
 use Rattle.nest_tree.specs.declared.body.Access.{Access}
-use Rattle.nest_tree.specs.declared.body.Body.{Body}
 use Rattle.nest_tree.specs.declared.kernel.Nest.{Nest}
 use Rattle.nest_core.specs.Forms.{has_vars}
 use Rattle.datacopy.specs.declared.side.Side.{Side}

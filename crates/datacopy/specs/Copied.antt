@@ -1,5 +1,5 @@
 -- What the command judges first, and what it enters into a kernel.
-use Rattle.std.specs.Prelude.{◌≡◌, ℕ, suc, ◌≤◌, Bool, false, cond, not, ◌&&◌, ◌||◌, nat_le, nat_eq, List, [], ◌∷◌, ◌++◌, length, map, take, drop, ◌+◌, ⊤, ℤ, Option, Some, None, Result, Err, slice_get, bytes_eq}
+use Rattle.std.specs.Prelude.{◌≡◌, ℕ, suc, ◌≤◌, Bool, cond, not, ◌&&◌, nat_le, List, [], ◌∷◌, ◌++◌, length, map, take, drop, replicate, ◌+◌, ◌-◌, ⊤, ℤ, Option, Some, None, Result, Err, slice_get, bytes_eq}
 use Rattle.std.specs.List.{AllByRecursion}
 use Rattle.chill_base.specs.declared.faults.Stop.{Stop}
 use Rattle.chill_base.specs.declared.faults.Stop.TheVariants.{Refused}
@@ -7,8 +7,12 @@ use Rattle.c_tree.specs.declared.program.Program.{Program}
 use Rattle.c_tree.specs.declared.program.Kind.TheVariants.{Number}
 use Rattle.c_tree.specs.declared.statement.Stmt.{Stmt}
 use Rattle.c_tree.specs.declared.statement.Stmt.TheVariants.{Declare, Grow}
+use Rattle.c_tree.specs.declared.statement.How.TheVariants.{Write}
 use Rattle.c_tree.specs.declared.index.Index.{Index}
 use Rattle.c_tree.specs.declared.index.Index.TheVariants.{Const}
+use Rattle.nest_tree.specs.declared.body.Access.{Access}
+use Rattle.nest_tree.specs.declared.body.Body.{Body}
+use Rattle.nest_tree.specs.declared.body.Body.TheVariants.{At}
 use Rattle.nest_tree.specs.declared.fault.CommandFault.{CommandFault}
 use Rattle.nest_tree.specs.declared.fault.CommandFault.TheVariants.{Shape}
 use Rattle.nest_tree.specs.declared.fault.ShapeWhy.{ShapeWhy}
@@ -20,6 +24,7 @@ use Rattle.nest_tree.specs.declared.made.MadeWhat.TheVariants.{Copy}
 use Rattle.nest_core.specs.Order.{numbered}
 use Rattle.nest_core.specs.Shapes.{IsShapedNest}
 use Rattle.one_statement.specs.Alone.{any_shares}
+use Rattle.one_statement.specs.Copies.{with_value}
 
 -- the first of these shapes that holds
 abbrev pub lowest : List (Bool × ShapeWhy) → Option ShapeWhy
@@ -70,19 +75,47 @@ with_lines p lines = record { name = p.name; matrices = p.matrices; params = p.p
 abbrev pub entered : Kernel → List ℕ → List ℤ → List Nest → Kernel
 entered k copy extents nests = record { head = with_lines k.head (lines_of copy extents); made = k.made ++ made_of copy extents ∷ []; nests = nests }
 
--- the new kernel has a copy of some extents, and one statement more
-pub record IsCopied (old new : Kernel) (copy : List ℕ) : Type 0 where
+-- two statements in the place of one
+abbrev pub with_both : List Nest → ℕ → Nest → Nest → List Nest
+with_both nests s a b = take s nests ++ (a ∷ b ∷ drop (s + 1) nests)
+
+-- in the outer loops, and then in a loop of its own: as a child it has a number that no statement has until all are counted anew
+abbrev pub copying_positions : List ℕ → ℕ → ℕ → List ℕ
+copying_positions outer statements dims = (outer ++ statements ∷ []) ++ replicate dims 0
+
+-- it sets cells of the copy to cells of the array, right before the loop at a place and in a loop for each dimension
+pub record IsCopy (k : Kernel) (old : Nest) (place dims : ℕ) (array copy : List ℕ) (n : Nest) : Type 0 where
+  pub levels : length n.levels ≡ place + dims
+  pub positions : n.positions ≡ copying_positions (take place old.positions) (length k.nests) dims
+  pub target : n.target.array ≡ copy
+  pub how : n.how ≡ Write
+  pub cell : Access
+  pub value : n.value ≡ At cell
+  pub source : cell.array ≡ array
+
+-- the statement has another right side, and one that copies stands right before its loop; all others are as they were
+pub record HasCopy (k : Kernel) (s : ℕ) (old : Nest) (place dims : ℕ) (array copy : List ℕ) (nests : List Nest) : Type 0 where
+  pub copying : Nest
+  pub value : Body
+  pub copies : IsCopy k old place dims array copy copying
+  pub are : nests ≡ numbered (with_both k.nests s copying (with_value old value))
+
+-- the same of a statement by its number, and of a level
+pub record HasCopyAt (k : Kernel) (s level dims : ℕ) (array copy : List ℕ) (nests : List Nest) : Type 0 where
+  pub old : Nest
+  pub found : slice_get k.nests s ≡ Some old
+  pub has : HasCopy k s old (level - 1) dims array copy nests
+
+-- the new kernel has a copy of some extents, and one statement more, which makes the copy
+pub record IsCopied (old new : Kernel) (s level : ℕ) (array copy : List ℕ) : Type 0 where
   pub extents : List ℤ
   pub some : 1 ≤ length extents
   pub is : new ≡ entered old copy extents new.nests
   pub more : length new.nests ≡ suc (length old.nests)
+  pub statements : HasCopyAt old s level (length extents) array copy new.nests
 
 -- so many statements, each of that shape, whose positions are counted from 0
 pub record AreCounted (head : Program) (count : ℕ) (nests : List Nest) : Type 0 where
   pub shaped : AllByRecursion (IsShapedNest head) nests
   pub many : length nests ≡ count
   pub counted : numbered nests ≡ nests
-
--- two statements in the place of one
-abbrev pub with_both : List Nest → ℕ → Nest → Nest → List Nest
-with_both nests s a b = take s nests ++ (a ∷ b ∷ drop (s + 1) nests)

@@ -17,6 +17,10 @@ names_level params n f l = names (params + length n.levels) n.terms (params + l)
 unfoldable pub holds_level : ℕ → Nest → Aff → ℕ → Bool
 holds_level params n f l = names_inside (params + length n.levels) n.terms (params + l) (length n.terms) f
 
+-- the form names the term, as itself or in an argument of another
+unfoldable pub names_term : ℕ → Nest → ℕ → Aff → Bool
+names_term params n t f = names (params + length n.levels) n.terms (params + length n.levels + t) (length n.terms) f
+
 -- the form names a level from this place on
 abbrev pub names_from : ℕ → Nest → ℕ → Aff → Bool
 names_from params n place f = any_below (λ l. nat_le place l && names_level params n f l) (length n.levels)

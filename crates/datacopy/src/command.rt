@@ -2,7 +2,7 @@
 ghost use Rattle.std.specs.Prelude.{◌≡◌, ◌<◌, ◌≤◌, ◌+◌, ◌-◌, suc, length, IfOk, IsTrue, OnOk, OnErr};
 ghost use Rattle.nest_core.specs.Shapes.{IsShaped};
 ghost use Rattle.datacopy.specs.Boxes.{IsReadBox};
-ghost use Rattle.datacopy.specs.Copied.{first_shape, GivesFirst, AnswersFirst, IsCopied, AreCounted};
+ghost use Rattle.datacopy.specs.Copied.{first_shape, GivesFirst, AnswersFirst, IsCopied, AreCounted, entered};
 ghost use Rattle.one_statement.specs.Names as spec;
 
 use crate::enter::enter;
@@ -36,6 +36,7 @@ fn judged_box(
     ensures first { GivesFirst (first_shape kernel.now statement level array) result }
     ensures read { IfOk result (λ b. IsReadBox kernel.now statement level array b.sides.items) }
     ensures extents { IfOk result (λ b. 1 ≤ length b.extents) }
+    ensures dims { IfOk result (λ b. length b.extents ≡ length b.sides.items) }
     ensures depth { IfOk result (λ b. level - 1 + length b.sides.items ≤ 8) }
     ensures statements { IfOk result (λ b. length kernel.now.nests < 64) }
     ensures free { IfOk result (λ b. IsTrue (spec.is_free kernel.now copy)) }
@@ -63,7 +64,7 @@ fn put(
     requires extents { 1 ≤ length extents }
     requires statements { length kernel.old.nests < 64 }
     requires nests { AreCounted kernel.old.head (suc (length kernel.old.nests)) nests }
-    ensures copied { OnOk result (IsCopied kernel.old kernel.new copy) }
+    ensures entered { OnOk result (kernel.new ≡ entered kernel.old copy extents nests) }
     ensures shaped { OnOk result (IsShaped kernel.new) }
     ensures unchanged { OnErr result (kernel.new ≡ kernel.old) }
 {
@@ -87,9 +88,10 @@ fn copy_box(
     requires shaped { IsShaped kernel.old }
     requires read { IsReadBox kernel.old statement level array found.sides.items }
     requires extents { 1 ≤ length found.extents }
+    requires dims { length found.extents ≡ length found.sides.items }
     requires depth { level - 1 + length found.sides.items ≤ 8 }
     requires statements { length kernel.old.nests < 64 }
-    ensures copied { OnOk result (IsCopied kernel.old kernel.new copy) }
+    ensures copied { OnOk result (IsCopied kernel.old kernel.new statement level array copy) }
     ensures shaped { OnOk result (IsShaped kernel.new) }
     ensures unchanged { OnErr result (kernel.new ≡ kernel.old) }
 {
@@ -122,7 +124,7 @@ pub fn datacopy(
     requires { IsShaped kernel.old }
     ensures first { AnswersFirst (first_shape kernel.old statement level array) result }
     ensures free { OnOk result (IsTrue (spec.is_free kernel.old copy)) }
-    ensures copied { OnOk result (IsCopied kernel.old kernel.new copy) }
+    ensures copied { OnOk result (IsCopied kernel.old kernel.new statement level array copy) }
     ensures shaped { OnOk result (IsShaped kernel.new) }
     ensures unchanged { OnErr result (kernel.new ≡ kernel.old) }
 {

@@ -1,8 +1,9 @@
 // The statement that copies a box.
-ghost use Rattle.std.specs.Prelude.{◌≡◌, ◌+◌, ◌<◌, ◌≤◌, suc, length, nat_lt, IsTrue, IfOk};
+ghost use Rattle.std.specs.Prelude.{◌≡◌, ◌+◌, ◌<◌, ◌≤◌, length, nat_lt, IsTrue, IfOk};
 ghost use Rattle.std.specs.List.{list_all};
 ghost use Rattle.nest_core.specs.Shapes.{vars_of, is_term_over, is_access_over, IsShapedNest};
 ghost use Rattle.datacopy.specs.Boxes.{is_side_over};
+ghost use Rattle.datacopy.specs.Copied.{copying_positions, IsCopy};
 ghost use Rattle.datacopy.specs.Narrow.{IsNarrow, new_vars, old_vars, terms_of, IsCopying};
 
 use crate::extents::{count_of, extents_of};
@@ -89,7 +90,8 @@ fn copy_cell(
     requires dims { length sides.now ≡ narrow.now.dims }
     requires some { 1 ≤ length sides.now }
     requires few { length sides.now ≤ 3 }
-    ensures { IfOk result (λ a. IsTrue (is_access_over (new_vars narrow.now) a)) }
+    ensures array { IfOk result (λ a. a.array ≡ copy) }
+    ensures over { IfOk result (λ a. IsTrue (is_access_over (new_vars narrow.now) a)) }
 {
     let mut at = List::new(alloc);
     for dim in 0..sides.len() {
@@ -103,7 +105,8 @@ fn array_cell(alloc: Global, narrow: &Narrow, array: Name) -> Result<Access, NoM
     requires narrow { IsNarrow narrow.now }
     requires some { 1 ≤ narrow.now.dims }
     requires few { narrow.now.dims ≤ 3 }
-    ensures { IfOk result (λ a. IsTrue (is_access_over (new_vars narrow.now) a)) }
+    ensures array { IfOk result (λ a. a.array ≡ array) }
+    ensures over { IfOk result (λ a. IsTrue (is_access_over (new_vars narrow.now) a)) }
 {
     let mut at = List::new(alloc);
     for dim in 0..narrow.dims {
@@ -125,13 +128,13 @@ fn other_levels(alloc: Global, count: usize) -> Result<List<Form>, NoMemory>
 
 /// The positions of the copying statement: a loop of its own in the loop around that of the statement. No statement
 /// of a kernel stands at a place that is the number of statements, since places are counted from 0.
-fn copying_positions(
+fn positions_of(
     alloc: Global,
     outer: &[usize],
     statements: usize,
     dims: usize,
 ) -> Result<List<usize>, NoMemory>
-    ensures { IfOk result (λ ps. length ps ≡ suc (length outer.now + dims)) }
+    ensures { IfOk result (λ ps. ps ≡ copying_positions outer.now statements dims) }
 {
     let mut positions = List::from_slice(alloc, outer)?;
     positions.push(statements)?;
@@ -154,6 +157,8 @@ fn copying_cells(
     requires dims { length sides.now ≡ narrow.now.dims }
     requires some { 1 ≤ length sides.now }
     requires few { length sides.now ≤ 3 }
+    ensures copy { IfOk result (λ p. p.0.array ≡ copy) }
+    ensures array { IfOk result (λ p. p.1.array ≡ array) }
     ensures target { IfOk result (λ p. IsTrue (is_access_over (new_vars narrow.now) p.0)) }
     ensures value { IfOk result (λ p. IsTrue (is_access_over (new_vars narrow.now) p.1)) }
 {
@@ -203,7 +208,8 @@ pub fn copying_statement(
     requires some { 1 ≤ length sides.now }
     requires few { length sides.now ≤ 3 }
     requires depth { place + length sides.now ≤ 8 }
-    ensures { IfOk result (λ n. IsShapedNest kernel.now.head n) }
+    ensures copies { IfOk result (λ n. IsCopy kernel.now nest.now place (length sides.now) array copy n) }
+    ensures shaped { IfOk result (λ n. IsShapedNest kernel.now.head n) }
 {
     let head = &kernel.head;
     let made = kernel.made.as_slice();
@@ -214,6 +220,7 @@ pub fn copying_statement(
     let terms = copying_terms(alloc, &narrow, nest.terms.as_slice())?;
     let cells = copying_cells(alloc, &narrow, sides, array, copy)?;
     let outer = &nest.positions.as_slice()[..place];
-    let positions = copying_positions(alloc, outer, kernel.nests.len(), sides.len())?;
-    Ok(copying_nest(alloc, &narrow, rows, terms, cells, positions)?)
+    let positions = positions_of(alloc, outer, kernel.nests.len(), sides.len())?;
+    let copying = copying_nest(alloc, &narrow, rows, terms, cells, positions)?;
+    Ok(copying)
 }

@@ -1,5 +1,8 @@
 // The extents of arrays.
-ghost use Rattle.std.specs.Prelude.{◌≡◌, IfOk, length};
+ghost use Rattle.std.specs.Prelude.{◌≡◌, IfOk, IsTrue, length, slice_get, Some};
+ghost use Rattle.std.specs.List.{list_all};
+ghost use Rattle.nest_core.specs.Forms.{has_vars};
+ghost use Rattle.datacopy.specs.Extents as spec;
 
 use crate::reads::is_name;
 use c_tree::{Array, Program};
@@ -17,19 +20,29 @@ pub struct Extent {
 }
 
 /// An extent that is a form.
-fn of_form(form: Aff) -> Extent {
+fn of_form(form: Aff) -> Extent
+    ensures { result ≡ spec.of_form form }
+{
     Extent { form, count: None }
 }
 
 /// An extent that is a number.
-fn of_number(alloc: Global, head: &Program, number: i64) -> Result<Extent, NoMemory> {
+#[tactic(auto, unfolding(nest_systems::specs::Ranges::of_none))]
+fn of_number(alloc: Global, head: &Program, number: i64) -> Result<Extent, NoMemory>
+    ensures extent { IfOk result (λ e. e ≡ spec.of_number head.now.params number) }
+    ensures width { IfOk result (λ e. IsTrue (has_vars (length head.now.params) e.form)) }
+{
     let mut form = zero_form(alloc, head.params.len())?;
     form.constant = number as i128;
     Ok(of_form(form))
 }
 
 /// An extent that is the first cell of an array.
-fn of_count(alloc: Global, head: &Program, count: Name) -> Result<Extent, NoMemory> {
+#[tactic(auto, unfolding(nest_systems::specs::Ranges::of_none))]
+fn of_count(alloc: Global, head: &Program, count: Name) -> Result<Extent, NoMemory>
+    ensures extent { IfOk result (λ e. e ≡ spec.of_count head.now.params count) }
+    ensures width { IfOk result (λ e. IsTrue (has_vars (length head.now.params) e.form)) }
+{
     let form = zero_form(alloc, head.params.len())?;
     Ok(Extent {
         form,
@@ -38,7 +51,10 @@ fn of_count(alloc: Global, head: &Program, count: Name) -> Result<Extent, NoMemo
 }
 
 /// The number of rows of a matrix.
-fn of_rows(alloc: Global, head: &Program, matrix: usize) -> Result<Option<Extent>, NoMemory> {
+fn of_rows(alloc: Global, head: &Program, matrix: usize) -> Result<Option<Extent>, NoMemory>
+    ensures extent { IfOk result (λ e. e ≡ spec.of_rows head.now.params (slice_get head.now.matrices matrix)) }
+    ensures width { IfOk result (λ e. IsTrue (spec.is_extent_over (length head.now.params) e)) }
+{
     match head.matrices.get(matrix) {
         Some(matrix) => Ok(Some(of_form(parameter_form(alloc, head, matrix.rows)?))),
         None => Ok(None),
@@ -51,7 +67,10 @@ fn signature_extent(
     head: &Program,
     array: &Array,
     dim: usize,
-) -> Result<Option<Extent>, NoMemory> {
+) -> Result<Option<Extent>, NoMemory>
+    ensures extent { IfOk result (λ e. e ≡ spec.extent_signature head.now.params (slice_get array.now.extents dim)) }
+    ensures width { IfOk result (λ e. IsTrue (spec.is_extent_over (length head.now.params) e)) }
+{
     match array.extents.get(dim) {
         Some(extent) => match extent_form(alloc, head, extent)? {
             Some(form) => Ok(Some(of_form(form))),
@@ -69,7 +88,10 @@ fn block_extent(
     rows: i64,
     cols: i64,
     dim: usize,
-) -> Result<Option<Extent>, NoMemory> {
+) -> Result<Option<Extent>, NoMemory>
+    ensures extent { IfOk result (λ e. e ≡ spec.by_dimension dim (Some (spec.of_count head.now.params count)) (Some (spec.of_number head.now.params rows)) (Some (spec.of_number head.now.params cols))) }
+    ensures width { IfOk result (λ e. IsTrue (spec.is_extent_over (length head.now.params) e)) }
+{
     match dim {
         0 => Ok(Some(of_count(alloc, head, count)?)),
         1 => Ok(Some(of_number(alloc, head, rows)?)),
@@ -84,7 +106,10 @@ fn made_extent(
     head: &Program,
     made: &Made,
     dim: usize,
-) -> Result<Option<Extent>, NoMemory> {
+) -> Result<Option<Extent>, NoMemory>
+    ensures extent { IfOk result (λ e. e ≡ spec.extent_made head.now.params (slice_get head.now.matrices made.now.matrix) dim made.now.what) }
+    ensures width { IfOk result (λ e. IsTrue (spec.is_extent_over (length head.now.params) e)) }
+{
     match &made.what {
         MadeWhat::Block { count, rows, cols } => {
             block_extent(alloc, head, *count, *rows, *cols, dim)
@@ -108,13 +133,17 @@ fn made_extent(
 }
 
 /// The extent of an array in a dimension, where it is known.
+#[tactic(auto, unfolding(crate::specs::Extents::extent_at))]
 fn extent_at(
     alloc: Global,
     head: &Program,
     made: &[Made],
     array: Name,
     dim: usize,
-) -> Result<Option<Extent>, NoMemory> {
+) -> Result<Option<Extent>, NoMemory>
+    ensures extent { IfOk result (λ e. e ≡ spec.extent_at head.now made.now array dim) }
+    ensures width { IfOk result (λ e. IsTrue (spec.is_extent_over (length head.now.params) e)) }
+{
     for known in head.arrays.as_slice() {
         if is_name(known.name, array) {
             return signature_extent(alloc, head, known, dim);
@@ -136,7 +165,9 @@ pub fn extents_of(
     array: Name,
     dims: usize,
 ) -> Result<Vec<Option<Extent>>, NoMemory>
-    ensures { IfOk result (λ es. length es.items ≡ dims) }
+    ensures extents { IfOk result (λ es. es.items ≡ spec.extents_of head.now made.now array dims) }
+    ensures width { IfOk result (λ es. IsTrue (list_all (spec.is_extent_over (length head.now.params)) es.items)) }
+    ensures count { IfOk result (λ es. length es.items ≡ dims) }
 {
     let mut extents = Vec::new(alloc);
     for dim in 0..dims {
@@ -146,7 +177,9 @@ pub fn extents_of(
 }
 
 /// The first array whose first cell is one of the extents.
-pub fn count_of(extents: &[Option<Extent>]) -> Option<Name> {
+pub fn count_of(extents: &[Option<Extent>]) -> Option<Name>
+    ensures { result ≡ spec.count_of extents.now }
+{
     for known in extents {
         if let Some(extent) = known {
             if extent.count.is_some() {

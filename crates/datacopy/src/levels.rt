@@ -71,7 +71,8 @@ pub fn last_named(head: &Program, nest: &Nest, place: usize, form: &Aff) -> usiz
     requires shaped { IsShapedNest head.now nest.now }
     requires width { IsTrue (has_vars (vars_of (length head.now.params) nest.now) form.now) }
     requires place { place ≤ length nest.now.levels }
-    ensures { result ≤ place }
+    ensures last { result ≡ spec.last_below (spec.names_level (length head.now.params) nest.now form.now) place }
+    ensures within { result ≤ place }
 {
     let mut found = 0;
     for level in 0..place {
@@ -83,10 +84,12 @@ pub fn last_named(head: &Program, nest: &Nest, place: usize, form: &Aff) -> usiz
 }
 
 /// Whether the form names the term, as itself or in an argument of another.
+#[tactic(auto, unfolding(crate::specs::Levels::names_term))]
 pub fn names_term(head: &Program, nest: &Nest, term: usize, form: &Aff) -> bool
     requires shaped { IsShapedNest head.now nest.now }
     requires width { IsTrue (has_vars (vars_of (length head.now.params) nest.now) form.now) }
     requires term { term < length nest.now.terms }
+    ensures { result ≡ spec.names_term (length head.now.params) nest.now term form.now }
 {
     let first = head.params.as_slice().len() + nest.levels.as_slice().len();
     let terms = nest.terms.as_slice();

@@ -1,9 +1,10 @@
 // Forms of a statement over the variables of the copying statement before it.
-ghost use Rattle.std.specs.Prelude.{◌≡◌, ◌+◌, ◌<◌, ◌≤◌, length, nat_lt, IsTrue, IfOk, OnOk};
+ghost use Rattle.std.specs.Prelude.{◌≡◌, ◌+◌, ◌++◌, ◌<◌, ◌≤◌, length, map, replicate, pos, nat_lt, IsTrue, IfOk, OnOk};
 ghost use Rattle.std.specs.List.{list_all};
 ghost use Rattle.nest_core.specs.Forms.{has_vars};
 ghost use Rattle.nest_core.specs.Shapes.{vars_of, is_row_over, IsShapedNest};
 ghost use Rattle.datacopy.specs.Boxes.{is_side_over};
+ghost use Rattle.datacopy.specs.Narrow as spec;
 ghost use Rattle.datacopy.specs.Narrow.{IsNarrow, new_vars, old_vars, further, Suits};
 
 use crate::levels::{names_from, names_term};
@@ -44,7 +45,7 @@ fn further(narrow: &Narrow) -> usize
 
 /// Appends zeros.
 pub fn push_zeros(coefs: &mut Vec<i128>, count: usize) -> Result<(), NoMemory>
-    ensures { OnOk result (length coefs.new.items ≡ length coefs.old.items + count) }
+    ensures { OnOk result (coefs.new.items ≡ coefs.old.items ++ replicate count (pos 0)) }
 {
     for _ in 0..count {
         coefs.push(0)?;
@@ -55,7 +56,7 @@ pub fn push_zeros(coefs: &mut Vec<i128>, count: usize) -> Result<(), NoMemory>
 /// Appends the numbers at these places.
 fn push_numbers(coefs: &mut Vec<i128>, numbers: &[i128], places: &[usize]) -> Result<(), NoMemory>
     requires { IsTrue (list_all (λ t. nat_lt t (length numbers.now)) places.now) }
-    ensures { OnOk result (length coefs.new.items ≡ length coefs.old.items + length places.now) }
+    ensures { OnOk result (coefs.new.items ≡ coefs.old.items ++ map (spec.number_of numbers.now) places.now) }
 {
     for place in places {
         coefs.push(numbers[*place])?;
@@ -67,7 +68,8 @@ fn push_numbers(coefs: &mut Vec<i128>, numbers: &[i128], places: &[usize]) -> Re
 pub fn narrow_form(alloc: Global, narrow: &Narrow, form: &Aff) -> Result<Aff, NoMemory>
     requires narrow { IsNarrow narrow.now }
     requires width { IsTrue (has_vars (old_vars narrow.now) form.now) }
-    ensures { IfOk result (λ f. IsTrue (has_vars (new_vars narrow.now) f)) }
+    ensures form { IfOk result (λ f. f ≡ spec.narrowed narrow.now form.now) }
+    ensures width { IfOk result (λ f. IsTrue (has_vars (new_vars narrow.now) f)) }
 {
     let old = form.coefs.as_slice();
     let mut coefs = Vec::new(alloc);
@@ -82,7 +84,7 @@ pub fn narrow_form(alloc: Global, narrow: &Narrow, form: &Aff) -> Result<Aff, No
     })
 }
 
-/// A form of the first variables over all new ones; a variable that it lacks isn't named.
+/// The form's numbers of the first variables, as a form over all new ones that names no further one.
 pub fn widened_form(
     alloc: Global,
     narrow: &Narrow,
@@ -91,12 +93,13 @@ pub fn widened_form(
 ) -> Result<Aff, NoMemory>
     requires narrow { IsNarrow narrow.now }
     requires count { count ≤ new_vars narrow.now }
-    ensures { IfOk result (λ f. IsTrue (has_vars (new_vars narrow.now) f)) }
+    requires known { count ≤ length form.now.coefs }
+    ensures form { IfOk result (λ f. f ≡ spec.widened narrow.now count form.now) }
+    ensures width { IfOk result (λ f. IsTrue (has_vars (new_vars narrow.now) f)) }
 {
     let known = form.coefs.as_slice();
-    let taken = &known[..count.min(known.len())];
-    let mut coefs = Vec::from_slice(alloc, taken)?;
-    push_zeros(&mut coefs, vars(narrow) - taken.len())?;
+    let mut coefs = Vec::from_slice(alloc, &known[..count])?;
+    push_zeros(&mut coefs, vars(narrow) - count)?;
     Ok(Aff {
         coefs: List::from_vec(coefs),
         constant: form.constant,
@@ -115,7 +118,8 @@ pub fn vars(narrow: &Narrow) -> usize
 pub fn dim_var(narrow: &Narrow, dim: usize) -> usize
     requires narrow { IsNarrow narrow.now }
     requires dim { dim < narrow.now.dims }
-    ensures { result < new_vars narrow.now }
+    ensures var { result ≡ narrow.now.params + narrow.now.outer + dim }
+    ensures within { result < new_vars narrow.now }
 {
     narrow.params + narrow.outer + dim
 }
@@ -124,6 +128,7 @@ pub fn dim_var(narrow: &Narrow, dim: usize) -> usize
 pub fn is_outer(head: &Program, nest: &Nest, place: usize, row: &KernelRow) -> bool
     requires shaped { IsShapedNest head.now nest.now }
     requires row { IsTrue (is_row_over (vars_of (length head.now.params) nest.now) (length nest.now.levels) row.now) }
+    ensures { result ≡ spec.is_outer (length head.now.params) nest.now place row.now }
 {
     !names_from(head, nest, place, &row.row.form)
 }
@@ -132,6 +137,7 @@ pub fn is_outer(head: &Program, nest: &Nest, place: usize, row: &KernelRow) -> b
 fn is_in_rows(head: &Program, nest: &Nest, place: usize, term: usize) -> bool
     requires shaped { IsShapedNest head.now nest.now }
     requires term { term < length nest.now.terms }
+    ensures { result ≡ spec.is_in_rows (length head.now.params) nest.now place term nest.now.rows }
 {
     for row in nest.rows.as_slice() {
         if is_outer(head, nest, place, row) && names_term(head, nest, term, &row.row.form) {
@@ -146,6 +152,7 @@ fn is_in_bases(head: &Program, nest: &Nest, sides: &[Side], term: usize) -> bool
     requires shaped { IsShapedNest head.now nest.now }
     requires sides { IsTrue (list_all (is_side_over (vars_of (length head.now.params) nest.now)) sides.now) }
     requires term { term < length nest.now.terms }
+    ensures { result ≡ spec.is_in_bases (length head.now.params) nest.now term sides.now }
 {
     for side in sides {
         if names_term(head, nest, term, &side.base) {
@@ -165,6 +172,7 @@ fn needed_terms(
 ) -> Result<List<usize>, NoMemory>
     requires shaped { IsShapedNest head.now nest.now }
     requires sides { IsTrue (list_all (is_side_over (vars_of (length head.now.params) nest.now)) sides.now) }
+    ensures needed { IfOk result (λ ts. ts ≡ spec.needed_terms (length head.now.params) nest.now place sides.now (length nest.now.terms)) }
     ensures terms { IfOk result (λ ts. IsTrue (list_all (λ t. nat_lt t (length nest.now.terms)) ts)) }
     ensures few { IfOk result (λ ts. length ts ≤ length nest.now.terms) }
 {
@@ -191,6 +199,7 @@ pub fn narrow_of(
     requires place { place ≤ length nest.now.levels }
     requires depth { place + length sides.now ≤ 8 }
     ensures narrow { IfOk result (λ w. IsNarrow w) }
+    ensures is { IfOk result (λ w. w ≡ spec.narrow_of (length head.now.params) nest.now place sides.now count) }
     ensures fields { IfOk result (λ w. Suits (length head.now.params) nest.now place (length sides.now) count w) }
 {
     Ok(Narrow {

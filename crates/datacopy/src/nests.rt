@@ -3,7 +3,9 @@ ghost use Rattle.std.specs.Prelude.{◌≡◌, ◌<◌, ◌≤◌, ◌+◌, ◌-
 ghost use Rattle.std.specs.List.{list_all, AllByRecursion};
 ghost use Rattle.nest_core.specs.Shapes.{vars_of, IsShapedNest};
 ghost use Rattle.datacopy.specs.Boxes.{is_side_over, has_subscripts, IsReadBox};
-ghost use Rattle.datacopy.specs.Copied.{AreCounted, with_both};
+ghost use Rattle.nest_core.specs.Order.{numbered};
+ghost use Rattle.one_statement.specs.Copies.{with_value};
+ghost use Rattle.datacopy.specs.Copied.{AreCounted, HasCopy, HasCopyAt, with_both};
 ghost use Rattle.datacopy.specs.Reads as spec;
 
 use crate::body::redirect;
@@ -49,7 +51,8 @@ fn counted(
     requires statement { statement < length nests.now }
     requires copying { IsShapedNest head.now copying }
     requires reading { IsShapedNest head.now reading }
-    ensures { IfOk result (λ new. AreCounted head.now (suc (length nests.now)) new) }
+    ensures are { IfOk result (λ new. new ≡ numbered (with_both nests.now statement copying reading)) }
+    ensures counted { IfOk result (λ new. AreCounted head.now (suc (length nests.now)) new) }
 {
     let mut new = with_both(alloc, nests, statement, copying, reading)?;
     number(alloc, &mut new)?;
@@ -68,7 +71,8 @@ fn reading_statement(
     requires shaped { IsShapedNest head.now nest.now }
     requires sides { IsTrue (list_all (is_side_over (vars_of (length head.now.params) nest.now)) sides.now) }
     requires reads { IsTrue (list_all (has_subscripts (length sides.now)) (spec.reads_of array nest.now.value)) }
-    ensures { IfOk result (λ n. IsShapedNest head.now n) }
+    ensures same { IfOk result (λ n. n ≡ with_value nest.now n.value) }
+    ensures shaped { IfOk result (λ n. IsShapedNest head.now n) }
 {
     let levels = nest.levels.as_slice().len();
     let vars = head.params.as_slice().len() + levels + nest.terms.as_slice().len();
@@ -96,13 +100,15 @@ fn nests_with_copy(
     requires few { length sides.now ≤ 3 }
     requires depth { place + length sides.now ≤ 8 }
     requires reads { IsTrue (list_all (has_subscripts (length sides.now)) (spec.reads_of array nest.now.value)) }
-    ensures { IfOk result (λ new. AreCounted kernel.now.head (suc (length kernel.now.nests)) new) }
+    ensures copied { IfOk result (λ new. HasCopy kernel.now statement nest.now place (length sides.now) array copy new) }
+    ensures counted { IfOk result (λ new. AreCounted kernel.now.head (suc (length kernel.now.nests)) new) }
 {
     let nests = kernel.nests.as_slice();
     let head = &kernel.head;
     let copying = copying_statement(alloc, kernel, nest, place, sides, array, copy)?;
     let reading = reading_statement(alloc, head, nest, sides, array, copy)?;
-    Ok(counted(alloc, head, nests, statement, copying, reading)?)
+    let new = counted(alloc, head, nests, statement, copying, reading)?;
+    Ok(new)
 }
 
 /// The statements with a copying statement before the one with this number, which reads the copy.
@@ -118,7 +124,8 @@ pub fn copied_nests(
     requires each { AllByRecursion (IsShapedNest kernel.now.head) kernel.now.nests }
     requires read { IsReadBox kernel.now statement level array sides.now }
     requires depth { level - 1 + length sides.now ≤ 8 }
-    ensures { IfOk result (λ new. AreCounted kernel.now.head (suc (length kernel.now.nests)) new) }
+    ensures copied { IfOk result (λ new. HasCopyAt kernel.now statement level (length sides.now) array copy new) }
+    ensures counted { IfOk result (λ new. AreCounted kernel.now.head (suc (length kernel.now.nests)) new) }
 {
     let nests = kernel.nests.as_slice();
     let nest = &nests[statement];

@@ -4,6 +4,7 @@ ghost use Rattle.std.specs.List.{list_all};
 ghost use Rattle.nest_core.specs.Forms.{has_vars};
 ghost use Rattle.nest_core.specs.Shapes.{vars_of, is_row_over, IsShapedNest};
 ghost use Rattle.datacopy.specs.Boxes.{is_side_over};
+ghost use Rattle.datacopy.specs.Extents.{is_extent_over};
 ghost use Rattle.datacopy.specs.Narrow.{IsNarrow, AreRows, new_vars, old_vars, depth_of, further as further_of};
 
 use crate::extents::Extent;
@@ -173,6 +174,7 @@ fn push_projected(
 ) -> Result<(), Stop<Excess>>
     requires narrow { IsNarrow narrow.now }
     requires rows { AreRows narrow.now rows.old }
+    requires known { narrow.now.params + narrow.now.outer ≤ length row.now.form.coefs }
     requires level { level ≤ depth_of narrow.now }
     ensures { OnOk result (AreRows narrow.now rows.new) }
 {
@@ -199,6 +201,7 @@ fn push_projection(
 ) -> Result<(), Stop<Excess>>
     requires shaped { IsShapedNest head.now nest.now }
     requires outer { narrow.now.outer ≤ length nest.now.levels }
+    requires params { narrow.now.params ≡ length head.now.params }
     requires narrow { IsNarrow narrow.now }
     requires rows { AreRows narrow.now rows.old }
     requires low { 1 ≤ level }
@@ -223,6 +226,7 @@ fn push_open_rows(
 ) -> Result<(), Stop<Excess>>
     requires shaped { IsShapedNest head.now nest.now }
     requires outer { narrow.now.outer ≤ length nest.now.levels }
+    requires params { narrow.now.params ≡ length head.now.params }
     requires narrow { IsNarrow narrow.now }
     requires rows { AreRows narrow.now rows.old }
     ensures { OnOk result (AreRows narrow.now rows.new) }
@@ -286,6 +290,7 @@ fn below_extent(
     dim: usize,
 ) -> Result<Aff, Stop<Excess>>
     requires narrow { IsNarrow narrow.now }
+    requires extent { length extent.now.form.coefs ≡ narrow.now.params }
     requires dim { dim < narrow.now.dims }
     ensures { IfOk result (λ f. IsTrue (has_vars (new_vars narrow.now) f)) }
 {
@@ -340,6 +345,7 @@ fn push_array_rows(
 ) -> Result<(), Stop<Excess>>
     requires narrow { IsNarrow narrow.now }
     requires rows { AreRows narrow.now rows.old }
+    requires extent { IsTrue (is_extent_over narrow.now.params extent.now) }
     requires dim { dim < narrow.now.dims }
     ensures { OnOk result (AreRows narrow.now rows.new) }
 {
@@ -365,9 +371,11 @@ pub fn copying_rows(
 ) -> Result<List<KernelRow>, Stop<Excess>>
     requires shaped { IsShapedNest head.now nest.now }
     requires narrow { IsNarrow narrow.now }
+    requires params { narrow.now.params ≡ length head.now.params }
     requires width { old_vars narrow.now ≡ vars_of (length head.now.params) nest.now }
     requires outer { narrow.now.outer ≤ length nest.now.levels }
     requires sides { IsTrue (list_all (is_side_over (old_vars narrow.now)) sides.now) }
+    requires over { IsTrue (list_all (is_extent_over narrow.now.params) extents.now) }
     requires dims { length sides.now ≡ narrow.now.dims }
     requires extents { length extents.now ≡ narrow.now.dims }
     ensures { IfOk result (λ rows. AreRows narrow.now rows) }

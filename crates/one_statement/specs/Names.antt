@@ -1,10 +1,23 @@
 -- Names that arrays which commands make can't have.
-use Rattle.std.specs.Prelude.{ℕ, Bool, false, not, ◌&&◌, ◌||◌, nat_eq, List, [], ◌∷◌, length, bytes_eq}
+use Rattle.std.specs.Prelude.{ℕ, Bool, false, not, ◌&&◌, ◌||◌, nat_eq, List, [], ◌∷◌, length, bytes_eq, Option, Some}
 use Rattle.std.specs.Char.{is_ascii_digit}
 use Rattle.std.specs.List.{list_all, list_any}
+use Rattle.c_tokens.specs.declared.token.Token.{Token}
+use Rattle.c_tokens.specs.declared.token.Token.TheVariants as token
+use Rattle.c_tokens.specs.Pieces.{tokens_of}
+use Rattle.c_tokens.specs.Tokens.{first}
 use Rattle.c_tree.specs.declared.program.Array.{Array}
 use Rattle.nest_tree.specs.declared.kernel.Kernel.{Kernel}
 use Rattle.nest_tree.specs.declared.made.Made.{Made}
+
+-- the token is this name
+abbrev pub is_named : List ℕ → Option Token → Bool
+is_named name (Some (token.Name found)) = bytes_eq found name
+is_named name _ = false
+
+-- a text that begins with the name isn't read as the name: it is a word of the language
+abbrev pub is_word : List ℕ → Bool
+is_word name = not (is_named name (first (tokens_of name)))
 
 abbrev pub all_digits : List ℕ → Bool
 all_digits bs = list_all is_ascii_digit bs
@@ -27,6 +40,6 @@ is_made made name = list_any (λ (m : Made). bytes_eq m.name name) made
 unfoldable pub is_used : Kernel → List ℕ → Bool
 is_used k name = is_param k.head.params name || (is_array k.head.arrays name || is_made k.made name)
 
--- no parameter, no array and no loop variable of a printed program has this name
+-- the name is no word of the language, and no parameter, no array and no loop variable of a printed program has it
 unfoldable pub is_free : Kernel → List ℕ → Bool
-is_free k name = not (is_loop_name name) && not (is_used k name)
+is_free k name = not (is_word name) && (not (is_loop_name name) && not (is_used k name))

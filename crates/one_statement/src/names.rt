@@ -1,5 +1,5 @@
 // Names that arrays which commands make can't have.
-ghost use Rattle.std.specs.Prelude.{◌≡◌, IsTrue};
+ghost use Rattle.std.specs.Prelude.{◌≡◌};
 ghost use Rattle.one_statement.specs.Names as spec;
 
 use c_tokens::{Token, Tokens};
@@ -9,7 +9,9 @@ use nest_systems::is_name;
 use nest_tree::{Kernel, Made};
 
 /// Whether the name is a word of the language, as a text is read.
-fn is_word(text: &[u8]) -> bool {
+fn is_word(text: &[u8]) -> bool
+    ensures { result ≡ spec.is_word text.now }
+{
     let tokens = Tokens::new(text);
     let Some(token) = tokens.peek() else {
         return true;
@@ -82,7 +84,7 @@ fn is_used(kernel: &Kernel, name: Name) -> bool
 /// Whether an array of this name can be made.
 #[tactic(auto, unfolding(crate::specs::Names::is_free))]
 pub fn is_free(kernel: &Kernel, name: Name) -> bool
-    ensures { IsTrue result → IsTrue (spec.is_free kernel.now name) }
+    ensures { result ≡ spec.is_free kernel.now name }
 {
     !is_word(name.bytes()) && !is_loop_name(name) && !is_used(kernel, name)
 }

@@ -1,5 +1,5 @@
-use Rattle.std.proofs.Common.{◌≡◌, ◌+◌, length}
+use Rattle.std.proofs.Common.{◌≡◌, ◌++◌, pos, replicate}
 use Rattle.datacopy.proofs.narrow.push_zeros.Given as goal
 
 abbrev pub invariant-loop : goal.invariant-loop
-invariant-loop l = length l.coefs.items ≡ length l.initial.coefs.items + l.counter
+invariant-loop l = l.coefs.items ≡ l.initial.coefs.items ++ replicate l.counter (pos 0)
