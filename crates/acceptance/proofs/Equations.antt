@@ -11,7 +11,7 @@ use Rattle.c_meaning.specs.Names.{Name}
 use Rattle.nest_tree.specs.declared.body.Body.{Body}
 use Rattle.nest_tree.specs.declared.body.Body.TheVariants as body
 use Rattle.acceptance.specs.Expressions.{Expression, index_layer, subscripts_layer, cell_layer, plain, plains, plain_cell, cell_of, number, name, negated, plus, minus, times, lesser, greater, floor, ceil}
-use Rattle.acceptance.specs.Around.{cells_layer, cells_of}
+pub use Rattle.source_limits.proofs.Celled.{cells_at, cells-At, cells-Times}
 use Rattle.acceptance.specs.Brackets.{Bracketed, bracketed_layer, bracketed}
 use Rattle.acceptance.specs.Forms.{Vars}
 use Rattle.acceptance.specs.Rows.{body_layer, body_of, access_of}
@@ -73,16 +73,6 @@ plains-Two a b = plains_at (Two a b) _ (outs-Two a b)
 
 pub plains-Three : (a b c : Index) → plains (Three a b c) ≡ plain a ∷ plain b ∷ plain c ∷ []
 plains-Three a b c = plains_at (Three a b c) _ (outs-Three a b c)
-
-pub cells_at : (e : Expr) (d : Expr-F Expr) → out-Expr e ≡ d → cells_of e ≡ cells_layer (map-Expr Expr (List Cell) cells_of d)
-unfolding cells_of
-cells_at e d h = fold_out-Expr (List Cell) cells_layer e ∙ ap (λ d. cells_layer (map-Expr Expr (List Cell) cells_of d)) h
-
-pub cells-At : (c : Cell) → cells_of (expr.At c) ≡ c ∷ []
-cells-At c = cells_at (expr.At c) _ (expr.outs-At c)
-
-pub cells-Times : (a b : Expr) → cells_of (expr.Times a b) ≡ cells_of a ++ cells_of b
-cells-Times a b = cells_at (expr.Times a b) _ (expr.outs-Times a b)
 
 pub bracketed_at : (e : Expr) (d : Expr-F Expr) → out-Expr e ≡ d → bracketed e ≡ bracketed_layer (map-Expr Expr Bracketed bracketed d)
 unfolding bracketed

@@ -1,7 +1,8 @@
 -- Which expressions are affine, the terms that they name, and the operands of bounds.
-use Rattle.std.specs.Prelude.{Bool, true, false, ◌&&◌, ◌||◌, cond, bytes_eq, List, [], ◌∷◌, ◌++◌}
+use Rattle.std.specs.Prelude.{Bool, true, false, ◌&&◌, cond, List, [], ◌∷◌, ◌++◌}
 use Rattle.c_tree.specs.declared.program.Matrix.{Matrix}
 use Rattle.c_meaning.specs.Names.{Name}
+pub use Rattle.source_limits.specs.Matrices.{is_index_array}
 use Rattle.acceptance.specs.Expressions.{Expression, number, name, one, two, three, negated, plus, minus, times, lesser, greater, floor, ceil}
 
 -- a sum of multiples of names and of numbers
@@ -19,10 +20,6 @@ is_plain (lesser e f) = false
 is_plain (greater e f) = false
 is_plain (floor e d) = false
 is_plain (ceil e d) = false
-
-abbrev pub is_index_array : List Matrix → Name → Bool
-is_index_array [] a = false
-is_index_array (m ∷ ms) a = (bytes_eq m.index a || bytes_eq m.col a) || is_index_array ms a
 
 -- a term reads a matrix's `index` or `col` array at such a sum
 abbrev pub is_term : List Matrix → Name → Expression → Bool

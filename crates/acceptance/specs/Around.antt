@@ -1,10 +1,8 @@
 -- What stands around a thing that is judged, and the expressions in it.
 use Rattle.std.specs.Prelude.{max, List, [], ◌∷◌, ◌++◌}
 use Rattle.c_tree.specs.declared.index.Cell.{Cell}
-use Rattle.c_tree.specs.declared.data.Expr.{Expr, fold-Expr}
-use Rattle.c_tree.specs.declared.data.Expr.TheOpen as expr
-use Rattle.c_tree.specs.declared.data.Expr.TheOpen.{Expr-F}
 use Rattle.c_meaning.specs.Names.{Name}
+pub use Rattle.source_limits.specs.Cells.{cells_layer, cells_of}
 use Rattle.acceptance.specs.Expressions.{Expression, plain, plains}
 use Rattle.acceptance.specs.Sizes.{Size, weight}
 use Rattle.acceptance.specs.Visits.{Passed, looped, tested, Asked, bounds, test, assignment}
@@ -26,17 +24,6 @@ abbrev pub sizes_in : List Size → List Passed → List Size
 sizes_in sizes [] = sizes
 sizes_in sizes (looped x low high ∷ ps) = sizes_in (sizes ++ record { name = x; size = max (weight sizes (plain low)) (weight sizes (plain high)) } ∷ []) ps
 sizes_in sizes (tested t ∷ ps) = sizes_in sizes ps
-
--- the cells of a right side, from the left
-abbrev pub cells_layer : Expr-F (List Cell) → List Cell
-cells_layer (expr.Const n) = []
-cells_layer (expr.At c) = c ∷ []
-cells_layer (expr.Plus a b) = a ++ b
-cells_layer (expr.Minus a b) = a ++ b
-cells_layer (expr.Times a b) = a ++ b
-
-unfoldable pub cells_of : Expr → List Cell
-cells_of = fold-Expr (List Cell) cells_layer
 
 -- the subscripts of cells, in order
 abbrev pub subscripts_of : List Cell → List Expression

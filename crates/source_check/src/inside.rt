@@ -1,8 +1,11 @@
 // Whether each access is inside its array.
-ghost use Rattle.std.specs.Prelude.{◌≡◌, ℕ, ◌+◌, ◌≤◌, [], ◌∷◌, length, IfOk, IfSome, OnOk, IsTrue};
+ghost use Rattle.std.specs.Prelude.{◌≡◌, ℕ, ◌+◌, ◌≤◌, ◌<◌, [], ◌∷◌, length, IfOk, OnOk, IsTrue};
 ghost use Rattle.std.specs.List.{list_all};
 ghost use Rattle.nest_core.specs.Forms.{has_vars};
-ghost use Rattle.source_check.specs.Sights.{IsSight, are_extents};
+ghost use Rattle.c_judge.specs.Signature as signature;
+ghost use Rattle.source_check.specs.Sights.{IsSight, are_extents, have_shapes};
+ghost use Rattle.source_limits.specs.Dimensions.{is_declared, is_declared_site};
+ghost use Rattle.source_limits.specs.Matrices.{is_of_matrix};
 ghost use Rattle.source_limits.specs.Sites.{count_loops};
 
 use crate::rows::{Own as Level, difference, levels_behind, push_bound, push_test};
@@ -13,8 +16,8 @@ use int_sets::SetFault;
 use nest_systems::{Own, copy_form, own_system, plain_rows, unit_form, widened_form, zero_form};
 use nest_tree::{KernelRow, Term};
 use source_limits::{
-    Around, End, Read, Scene, Side, Site, SourceExcess, SourceFault, cells, first_inside, form,
-    is_read, mentions, read_of, subscript_at, subscripts, variables,
+    Around, End, Mention, Read, Scene, Side, Site, SourceExcess, SourceFault, cells, first_inside,
+    form, is_name, is_read, mentions, read_of, subscript_at, subscripts, variables,
 };
 use std::alloc::Global;
 
@@ -66,22 +69,28 @@ fn mark(
     Ok(())
 }
 
-/// The extent of an array at a place among its extents.
+/// The extent at a place of the first array of that name.
 fn extent_of<'a>(
-    arrays: &[Array],
-    extents: &'a [List<Aff>],
+    mut arrays: &[Array],
+    mut extents: &'a [List<Aff>],
     name: Name,
     place: usize,
-) -> Option<&'a Aff>
-    requires count { length extents.now ≡ length arrays.now }
-    ensures { (n : ℕ) → IsTrue (list_all (are_extents n) extents.now) → IfSome result (λ f. IsTrue (has_vars n f.now)) }
+) -> &'a Aff
+    requires shapes { IsTrue (have_shapes arrays.now extents.now) }
+    requires place { place < length (signature.extents_of arrays.now name) }
+    ensures { (n : ℕ) → IsTrue (list_all (are_extents n) extents.entry.now) → IsTrue (has_vars n result.now) }
 {
-    for i in 0..extents.len() {
-        if arrays[i].name == name {
-            return extents[i].as_slice().get(place);
+    'arrays: while let [array, more @ ..] = arrays {
+        let [own, others @ ..] = extents else {
+            unreachable!()
+        };
+        if is_name(array.name, name) {
+            return &own.as_slice()[place];
         }
+        arrays = more;
+        extents = others;
     }
-    None
+    unreachable!()
 }
 
 /// The marked reads, and a form.
@@ -204,17 +213,31 @@ fn judge_inside(
 ) -> Result<(), Stop<SourceFault>>
     requires sight { IsSight sight }
     requires count { length named.now ≡ length sight.reads.now }
+    requires place { place < length (signature.extents_of sight.scene.head.now.arrays array) }
 {
     let arrays = sight.scene.head.arrays.as_slice();
-    let Some(extent) = extent_of(arrays, sight.extents, array, place) else {
-        return Ok(());
-    };
+    let extent = extent_of(arrays, sight.extents, array, place);
     let vars = variables(sight.scene, sight.reads);
     let e = form(alloc, subscript_at(sight.scene), vars, e)?;
     match system_of(alloc, sight, known, named, &e) {
         Ok(own) => judge_extent(alloc, sight, &own, array, &e, extent),
         Err(stop) => Err(over(sight, stop)),
     }
+}
+
+/// Judges a term.
+fn judge_term(
+    alloc: Global,
+    sight: Sight,
+    known: &Known,
+    mention: Mention,
+) -> Result<(), Stop<SourceFault>>
+    requires sight { IsSight sight }
+    requires named { length known.now.named ≡ length sight.reads.now }
+    requires term { IsTrue (is_of_matrix sight.scene.head.now.matrices mention) }
+{
+    let named = known.named.as_slice();
+    judge_inside(alloc, sight, known, named, *mention.array, 0, mention.at)
 }
 
 /// Judges the terms that an expression names.
@@ -228,10 +251,9 @@ fn judge_terms(
     requires named { length known.now.named ≡ length sight.reads.now }
 {
     let matrices = sight.scene.head.matrices.as_slice();
-    let named = known.named.as_slice();
     let mentions = mentions(alloc, matrices, e)?;
     for mention in mentions.as_slice() {
-        judge_inside(alloc, sight, known, named, *mention.array, 0, mention.at)?;
+        judge_term(alloc, sight, known, *mention)?;
     }
     Ok(())
 }
@@ -332,6 +354,7 @@ fn judge_cell(
 ) -> Result<(), Stop<SourceFault>>
     requires sight { IsSight sight }
     requires named { length known.now.named ≡ length sight.reads.now }
+    requires cell { IsTrue (is_declared sight.scene.head.now.arrays cell.now) }
 {
     let subscripts = subscripts(alloc, &cell.at)?;
     for e in subscripts.as_slice() {
@@ -342,6 +365,22 @@ fn judge_cell(
         let mut named = List::from_slice(alloc, known.named.as_slice())?;
         mark(alloc, sight, &mut named, e)?;
         judge_inside(alloc, sight, known, named.as_slice(), cell.array, place, e)?;
+    }
+    Ok(())
+}
+
+fn judge_cells(
+    alloc: Global,
+    sight: Sight,
+    known: &Known,
+    cells: &[&Cell],
+) -> Result<(), Stop<SourceFault>>
+    requires sight { IsSight sight }
+    requires named { length known.now.named ≡ length sight.reads.now }
+    requires cells { IsTrue (list_all (λ c. is_declared sight.scene.head.now.arrays c.now) cells.now) }
+{
+    for cell in cells {
+        judge_cell(alloc, sight, known, cell)?;
     }
     Ok(())
 }
@@ -361,6 +400,7 @@ fn nothing_named(alloc: Global, count: usize) -> Result<List<bool>, NoMemory>
 pub fn judge_accesses(alloc: Global, sight: Sight, site: &Site) -> Result<(), Stop<SourceFault>>
     requires sight { IsSight sight }
     requires depth { count_loops site.now.around.items ≤ 8 }
+    requires declared { IsTrue (is_declared_site sight.scene.head.now.arrays site.now) }
 {
     let mut known = Known {
         rows: List::new(alloc),
@@ -373,8 +413,5 @@ pub fn judge_accesses(alloc: Global, sight: Sight, site: &Site) -> Result<(), St
         levels = levels_behind(levels, *around);
     }
     let cells = cells(alloc, site.target, site.value)?;
-    for cell in cells.as_slice() {
-        judge_cell(alloc, sight, &known, cell)?;
-    }
-    Ok(())
+    judge_cells(alloc, sight, &known, cells.as_slice())
 }

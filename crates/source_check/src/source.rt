@@ -1,10 +1,11 @@
 // The acceptance of a source.
-ghost use Rattle.std.specs.Prelude.{◌≡◌, ◌≤◌, [], length, IfOk, IsTrue};
+ghost use Rattle.std.specs.Prelude.{◌≡◌, ◌≤◌, [], length, IfOk, OnOk, IsTrue};
 ghost use Rattle.std.specs.List.{list_all, AllByRecursion};
 ghost use Rattle.c_judge.specs.Rules.{KeepsRules};
 ghost use Rattle.nest_core.specs.Order.{numbered};
 ghost use Rattle.nest_core.specs.Shapes.{IsShaped, IsShapedNest};
-ghost use Rattle.source_check.specs.Sights.{are_extents};
+ghost use Rattle.source_check.specs.Sights.{are_extents, have_shapes};
+ghost use Rattle.source_limits.specs.Dimensions.{HasMatrices, is_declared_site};
 ghost use Rattle.source_limits.specs.Executor.{HasExecutor};
 ghost use Rattle.source_limits.specs.Heads.{signature_of};
 ghost use Rattle.source_limits.specs.Sites.{is_shallow};
@@ -24,7 +25,9 @@ use source_limits::{
 use std::alloc::Global;
 
 /// Refuses an inspector that isn't empty.
-fn judge_inspector(inspector: &[Stmt]) -> Result<(), Stop<SourceFault>> {
+fn judge_inspector(inspector: &[Stmt]) -> Result<(), Stop<SourceFault>>
+    ensures { OnOk result (inspector.now ≡ []) }
+{
     let count = count_statements(inspector);
     if count > 0 {
         return Err(over(SourceWhat::Inspector, count));
@@ -38,7 +41,8 @@ fn extents_of(
     program: &Program,
     array: &Array,
 ) -> Result<List<Aff>, Stop<SourceFault>>
-    ensures { IfOk result (λ fs. IsTrue (are_extents (length program.now.params) fs)) }
+    ensures widths { IfOk result (λ fs. IsTrue (are_extents (length program.now.params) fs)) }
+    ensures count { IfOk result (λ fs. length fs ≡ length array.now.extents) }
 {
     let at = At {
         statement: 0,
@@ -57,7 +61,7 @@ fn extents_of(
 /// The extents of all arrays as forms of the parameters.
 fn all_extents(alloc: Global, program: &Program) -> Result<List<List<Aff>>, Stop<SourceFault>>
     ensures widths { IfOk result (λ all. IsTrue (list_all (are_extents (length program.now.params)) all)) }
-    ensures count { IfOk result (λ all. length all ≡ length program.now.arrays) }
+    ensures shapes { IfOk result (λ all. IsTrue (have_shapes program.now.arrays all)) }
 {
     let mut all = List::new(alloc);
     for array in program.arrays.as_slice() {
@@ -67,7 +71,10 @@ fn all_extents(alloc: Global, program: &Program) -> Result<List<List<Aff>>, Stop
 }
 
 /// Judges the limits of an assignment's expressions.
-fn judge_limits(alloc: Global, program: &Program, site: &Site) -> Result<(), Stop<SourceFault>> {
+fn judge_limits(alloc: Global, program: &Program, site: &Site) -> Result<(), Stop<SourceFault>>
+    requires matrices { HasMatrices program.now }
+    requires declared { IsTrue (is_declared_site program.now.arrays site.now) }
+{
     let around = site.around.as_slice();
     let names = names_of(alloc, program.params.as_slice(), around)?;
     let sizes = sizes_of(alloc, around)?;
@@ -78,6 +85,16 @@ fn judge_limits(alloc: Global, program: &Program, site: &Site) -> Result<(), Sto
         sizes: sizes.as_slice(),
     };
     judge_site(alloc, scene, site)
+}
+
+fn judge_all_limits(alloc: Global, program: &Program, all: &[Site]) -> Result<(), Stop<SourceFault>>
+    requires matrices { HasMatrices program.now }
+    requires declared { IsTrue (list_all (is_declared_site program.now.arrays) all.now) }
+{
+    for site in all {
+        judge_limits(alloc, program, site)?;
+    }
+    Ok(())
 }
 
 /// The scene of an assignment whose limits are judged.
@@ -101,7 +118,9 @@ fn judge_places<'x>(
     site: &Site,
 ) -> Result<(), Stop<SourceFault>>
     requires shallow { IsTrue (is_shallow site.now) }
-    requires count { length extents.now ≡ length program.now.arrays }
+    requires matrices { HasMatrices program.now }
+    requires declared { IsTrue (is_declared_site program.now.arrays site.now) }
+    requires shapes { IsTrue (have_shapes program.now.arrays extents.now) }
     requires widths { IsTrue (list_all (are_extents (length program.now.params)) extents.now) }
 {
     let names = names_of(alloc, program.params.as_slice(), site.around.as_slice())?;
@@ -116,6 +135,24 @@ fn judge_places<'x>(
         terms: terms.as_slice(),
     };
     judge_accesses(alloc, sight, site)
+}
+
+fn judge_all_places(
+    alloc: Global,
+    program: &Program,
+    extents: &[List<Aff>],
+    all: &[Site],
+) -> Result<(), Stop<SourceFault>>
+    requires shallow { IsTrue (list_all is_shallow all.now) }
+    requires matrices { HasMatrices program.now }
+    requires declared { IsTrue (list_all (is_declared_site program.now.arrays) all.now) }
+    requires shapes { IsTrue (have_shapes program.now.arrays extents.now) }
+    requires widths { IsTrue (list_all (are_extents (length program.now.params)) extents.now) }
+{
+    for site in all {
+        judge_places(alloc, program, extents, site)?;
+    }
+    Ok(())
 }
 
 /// The statement of an assignment.
@@ -160,15 +197,12 @@ pub fn accept(alloc: Global, program: &Program) -> Result<Kernel, Stop<SourceFau
     judge_inspector(program.inspector.as_slice())?;
     let extents = all_extents(alloc, program)?;
     let sites = sites(alloc, program.executor.as_slice())?;
-    for site in sites.as_slice() {
-        judge_limits(alloc, program, site)?;
-    }
-    for site in sites.as_slice() {
-        judge_places(alloc, program, extents.as_slice(), site)?;
-    }
+    let all = sites.as_slice();
+    judge_all_limits(alloc, program, all)?;
+    judge_all_places(alloc, program, extents.as_slice(), all)?;
     Ok(Kernel {
         head: signature_of(alloc, program)?,
         made: List::new(alloc),
-        nests: make_nests(alloc, program, sites.as_slice())?,
+        nests: make_nests(alloc, program, all)?,
     })
 }

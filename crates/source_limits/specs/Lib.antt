@@ -3,3 +3,6 @@ pub mod Sites
 pub mod Widths
 pub mod Heads
 pub mod Parts
+pub mod Cells
+pub mod Matrices
+pub mod Dimensions

@@ -1,13 +1,16 @@
 // The limits of a source's expressions, in the order of the text.
-ghost use Rattle.std.specs.Prelude.{◌≡◌, ℕ, ◌+◌, length, IfOk, OnOk, IsTrue};
+ghost use Rattle.std.specs.Prelude.{◌≡◌, ℕ, ◌+◌, ◌<◌, length, IfOk, OnOk, IsTrue};
 ghost use Rattle.std.specs.List.{list_all};
+ghost use Rattle.c_judge.specs.Signature as signature;
+ghost use Rattle.source_limits.specs.Dimensions.{HasMatrices, is_declared, is_declared_site};
+ghost use Rattle.source_limits.specs.Matrices.{is_of_matrix};
 ghost use Rattle.source_limits.specs.Sites.{count_loops};
 ghost use Rattle.source_limits.specs.Widths.{is_read_over};
 
 use crate::affine::{At, Variables, coefs, constant, form, not_affine, over};
 use crate::brackets::{brackets, data_brackets};
 use crate::parts::{cells, subscripts};
-use crate::reads::{Mention, Read, is_affine, is_read, mentions};
+use crate::reads::{Mention, Read, is_affine, is_name, is_read, mentions};
 use crate::site::{Around, Site, first_inside};
 use crate::spine::{End, operands};
 use crate::weight::{LevelSize, name_weight, weight};
@@ -150,12 +153,15 @@ pub fn read_of(alloc: Global, scene: Scene, mention: Mention) -> Result<Read, St
     })
 }
 
-/// The extents of an array.
-fn extents_of<'a>(arrays: &'a [Array], name: Name) -> &'a [Index] {
-    for array in arrays {
-        if array.name == name {
+/// The extents of the first array of that name.
+fn extents_of<'a>(mut arrays: &'a [Array], name: Name) -> &'a [Index]
+    ensures { result.now ≡ signature.extents_of arrays.entry.now name }
+{
+    'arrays: while let [array, rest @ ..] = arrays {
+        if is_name(array.name, name) {
             return array.extents.as_slice();
         }
+        arrays = rest;
     }
     &[]
 }
@@ -166,16 +172,14 @@ fn judge_subscript_size(
     array: Name,
     place: usize,
     e: &Index,
-) -> Result<(), Stop<SourceFault>> {
+) -> Result<(), Stop<SourceFault>>
+    requires { place < length (signature.extents_of scene.head.now.arrays array) }
+{
     let size = weight(scene.sizes, e);
     judge_size(scene, size)?;
-    match extents_of(scene.head.arrays.as_slice(), array).get(place) {
-        Some(extent) => judge_size(
-            scene,
-            size.saturating_add(weight(&[], extent)).saturating_add(2),
-        ),
-        None => Ok(()),
-    }
+    let extents = extents_of(scene.head.arrays.as_slice(), array);
+    let below = weight(&[], &extents[place]);
+    judge_size(scene, size.saturating_add(below).saturating_add(2))
 }
 
 /// Judges a subscript that names these reads.
@@ -186,9 +190,19 @@ fn judge_subscript(
     array: Name,
     place: usize,
     e: &Index,
-) -> Result<(), Stop<SourceFault>> {
+) -> Result<(), Stop<SourceFault>>
+    requires { place < length (signature.extents_of scene.head.now.arrays array) }
+{
     judge_form(alloc, subscript_at(scene), variables(scene, reads), e, &[e])?;
     judge_subscript_size(scene, array, place, e)
+}
+
+/// Judges the subscript of a term.
+fn judge_term(alloc: Global, scene: Scene, mention: Mention) -> Result<(), Stop<SourceFault>>
+    requires matrices { HasMatrices scene.head.now }
+    requires term { IsTrue (is_of_matrix scene.head.now.matrices mention) }
+{
+    judge_subscript(alloc, scene, &[], *mention.array, 0, mention.at)
 }
 
 /// Judges the subscripts of the terms that an expression names, and adds these to the reads.
@@ -197,10 +211,12 @@ fn judge_mentions(
     scene: Scene,
     reads: &mut Vec<Read>,
     e: &Index,
-) -> Result<(), Stop<SourceFault>> {
+) -> Result<(), Stop<SourceFault>>
+    requires { HasMatrices scene.head.now }
+{
     let mentions = mentions(alloc, scene.head.matrices.as_slice(), e)?;
     for mention in mentions.as_slice() {
-        judge_subscript(alloc, scene, &[], *mention.array, 0, mention.at)?;
+        judge_term(alloc, scene, *mention)?;
         add_read(reads, read_of(alloc, scene, *mention)?)?;
     }
     Ok(())
@@ -213,7 +229,9 @@ fn judge_bound(
     end: End,
     var: Name,
     e: &Index,
-) -> Result<(), Stop<SourceFault>> {
+) -> Result<(), Stop<SourceFault>>
+    requires { HasMatrices scene.head.now }
+{
     let mut reads = Vec::new(alloc);
     judge_mentions(alloc, scene, &mut reads, e)?;
     let at = At {
@@ -238,7 +256,9 @@ fn judge_bound(
 }
 
 /// Judges a side of a test.
-fn judge_side(alloc: Global, scene: Scene, e: &Index) -> Result<(), Stop<SourceFault>> {
+fn judge_side(alloc: Global, scene: Scene, e: &Index) -> Result<(), Stop<SourceFault>>
+    requires { HasMatrices scene.head.now }
+{
     let mut reads = Vec::new(alloc);
     judge_mentions(alloc, scene, &mut reads, e)?;
     let at = At {
@@ -248,7 +268,9 @@ fn judge_side(alloc: Global, scene: Scene, e: &Index) -> Result<(), Stop<SourceF
     judge_form(alloc, at, variables(scene, reads.as_slice()), e, &[e])
 }
 
-fn judge_test(alloc: Global, scene: Scene, test: &Test) -> Result<(), Stop<SourceFault>> {
+fn judge_test(alloc: Global, scene: Scene, test: &Test) -> Result<(), Stop<SourceFault>>
+    requires { HasMatrices scene.head.now }
+{
     judge_side(alloc, scene, &test.left)?;
     judge_side(alloc, scene, &test.right)?;
     let both = weight(scene.sizes, &test.left).saturating_add(weight(scene.sizes, &test.right));
@@ -256,7 +278,9 @@ fn judge_test(alloc: Global, scene: Scene, test: &Test) -> Result<(), Stop<Sourc
 }
 
 /// Judges a loop's bounds, or a guard's tests.
-fn judge_around(alloc: Global, scene: Scene, around: Around) -> Result<(), Stop<SourceFault>> {
+fn judge_around(alloc: Global, scene: Scene, around: Around) -> Result<(), Stop<SourceFault>>
+    requires { HasMatrices scene.head.now }
+{
     match around {
         Around::Loop { var, low, high, .. } => {
             judge_bound(alloc, scene, End::Low, *var, low)?;
@@ -272,7 +296,10 @@ fn judge_around(alloc: Global, scene: Scene, around: Around) -> Result<(), Stop<
 }
 
 /// Judges the subscripts of a cell: first the terms in all of them, and then each.
-fn judge_cell(alloc: Global, scene: Scene, cell: &Cell) -> Result<(), Stop<SourceFault>> {
+fn judge_cell(alloc: Global, scene: Scene, cell: &Cell) -> Result<(), Stop<SourceFault>>
+    requires matrices { HasMatrices scene.head.now }
+    requires cell { IsTrue (is_declared scene.head.now.arrays cell.now) }
+{
     let subscripts = subscripts(alloc, &cell.at)?;
     let mut reads = Vec::new(alloc);
     for e in subscripts.as_slice() {
@@ -291,17 +318,28 @@ fn judge_cell(alloc: Global, scene: Scene, cell: &Cell) -> Result<(), Stop<Sourc
     Ok(())
 }
 
+fn judge_cells(alloc: Global, scene: Scene, cells: &[&Cell]) -> Result<(), Stop<SourceFault>>
+    requires matrices { HasMatrices scene.head.now }
+    requires cells { IsTrue (list_all (λ c. is_declared scene.head.now.arrays c.now) cells.now) }
+{
+    for cell in cells {
+        judge_cell(alloc, scene, cell)?;
+    }
+    Ok(())
+}
+
 /// Judges the expressions of an assignment, and those around it of which it is the first assignment inside.
-pub fn judge_site(alloc: Global, scene: Scene, site: &Site) -> Result<(), Stop<SourceFault>> {
+pub fn judge_site(alloc: Global, scene: Scene, site: &Site) -> Result<(), Stop<SourceFault>>
+    requires matrices { HasMatrices scene.head.now }
+    requires declared { IsTrue (is_declared_site scene.head.now.arrays site.now) }
+{
     for around in site.around.as_slice() {
         if first_inside(around) == site.number {
             judge_around(alloc, scene, *around)?;
         }
     }
     let cells = cells(alloc, site.target, site.value)?;
-    for cell in cells.as_slice() {
-        judge_cell(alloc, scene, cell)?;
-    }
+    judge_cells(alloc, scene, cells.as_slice())?;
     judge_count(SourceWhat::Nest, data_brackets(site.value), NEST)
 }
 

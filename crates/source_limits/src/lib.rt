@@ -22,7 +22,7 @@ pub use judge::{
     Scene, judge_site, names_of, read_of, reads_of, sizes_of, subscript_at, variables,
 };
 pub use parts::{cells, expressions, subscripts};
-pub use reads::{Mention, Read, is_read, mentions};
+pub use reads::{Mention, Read, is_name, is_read, mentions};
 pub use site::{Around, Site, first_inside, positions, sites};
 pub use spine::{Chain, End, Leaf, Link, Sign, chain_of, operands};
 pub use weight::LevelSize;

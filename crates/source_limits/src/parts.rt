@@ -1,5 +1,7 @@
 // The expressions of an assignment and of what stands around it.
-ghost use Rattle.std.specs.Prelude.{◌≡◌, ◌≤◌, ◌+◌, length, IfOk, OnOk};
+ghost use Rattle.std.specs.Prelude.{◌≡◌, ◌≤◌, ◌+◌, ◌++◌, ◌∷◌, length, map, reverse, IfOk, OnOk};
+ghost use Rattle.source_limits.specs.Cells.{cells_of};
+ghost use Rattle.source_limits.specs.Dimensions.{subscript_count};
 
 use crate::site::{Around, Site};
 use c_tree::{Cell, Expr, Index, Subscripts, Test};
@@ -10,6 +12,7 @@ use std::alloc::Global;
 pub fn subscripts<'a>(alloc: Global, at: &'a Subscripts) -> Result<Vec<&'a Index>, NoMemory>
     ensures some { IfOk result (λ v. 1 ≤ length v.items) }
     ensures few { IfOk result (λ v. length v.items ≤ 3) }
+    ensures count { IfOk result (λ v. length v.items ≡ subscript_count at.now) }
 {
     let mut all = Vec::new(alloc);
     push_subscripts(&mut all, at)?;
@@ -19,6 +22,7 @@ pub fn subscripts<'a>(alloc: Global, at: &'a Subscripts) -> Result<Vec<&'a Index
 fn push_subscripts<'a>(all: &mut Vec<&'a Index>, at: &'a Subscripts) -> Result<(), NoMemory>
     ensures some { OnOk result (length all.old.items + 1 ≤ length all.new.items) }
     ensures few { OnOk result (length all.new.items ≤ length all.old.items + 3) }
+    ensures count { OnOk result (length all.new.items ≡ length all.old.items + subscript_count at.now) }
 {
     match at {
         Subscripts::One(a) => all.push(a.get())?,
@@ -40,7 +44,9 @@ pub fn cells<'a>(
     alloc: Global,
     target: &'a Cell,
     value: &'a Expr,
-) -> Result<Vec<&'a Cell>, NoMemory> {
+) -> Result<Vec<&'a Cell>, NoMemory>
+    ensures { IfOk result (λ v. map (λ c. c.now) v.items ≡ target.now ∷ cells_of value.now) }
+{
     let mut all = Vec::new(alloc);
     push_cells(&mut all, value)?;
     all.push(target)?;
@@ -49,7 +55,9 @@ pub fn cells<'a>(
 }
 
 /// Appends the cells, the last one first.
-fn push_cells<'a>(all: &mut Vec<&'a Cell>, value: &'a Expr) -> Result<(), NoMemory> {
+fn push_cells<'a>(all: &mut Vec<&'a Cell>, value: &'a Expr) -> Result<(), NoMemory>
+    ensures { OnOk result (map (λ c. c.now) all.new.items ≡ map (λ c. c.now) all.old.items ++ reverse (cells_of value.now)) }
+{
     let mut rest = value;
     loop {
         match rest {

@@ -1,7 +1,9 @@
 // Reads of index arrays in expressions.
-ghost use Rattle.std.specs.Prelude.{◌<◌, IfSome};
+ghost use Rattle.std.specs.Prelude.{◌≡◌, ◌<◌, bytes_eq, IfSome, IfOk, OnOk, IsTrue};
+ghost use Rattle.std.specs.List.{list_all};
 ghost use Rattle.c_tree.specs.declared.index.Cell.{size-Cell};
 ghost use Rattle.c_tree.specs.declared.index.Index.{size-Index};
+ghost use Rattle.source_limits.specs.Matrices as spec;
 
 use c_tree::{Cell, Index, Matrix, Subscripts};
 use chill_base::{Name, NoMemory};
@@ -29,12 +31,22 @@ pub fn is_read(a: &Read, b: &Read) -> bool {
         && a.at.coefs.as_slice() == b.at.coefs.as_slice()
 }
 
+/// Whether two names are the same.
+pub fn is_name(a: Name, b: Name) -> bool
+    ensures { result ≡ bytes_eq a b }
+{
+    a == b
+}
+
 /// Whether an array holds the rows or the columns of a matrix.
-fn is_index_array(matrices: &[Matrix], name: Name) -> bool {
-    for matrix in matrices {
-        if matrix.index == name || matrix.col == name {
+fn is_index_array(mut matrices: &[Matrix], name: Name) -> bool
+    ensures { result ≡ spec.is_index_array matrices.entry.now name }
+{
+    'matrices: while let [matrix, rest @ ..] = matrices {
+        if is_name(matrix.index, name) || is_name(matrix.col, name) {
             return true;
         }
+        matrices = rest;
     }
     false
 }
@@ -67,7 +79,8 @@ fn is_plain(e: &Index) -> bool {
 
 /// The subscript of a cell that is a term: a read of a matrix's rows or columns at a sum without reads.
 pub fn term_subscript<'a>(matrices: &[Matrix], cell: &'a Cell) -> Option<&'a Index>
-    ensures { IfSome result (λ e. size-Index e.now < size-Cell cell.now) }
+    ensures size { IfSome result (λ e. size-Index e.now < size-Cell cell.now) }
+    ensures array { IfSome result (λ e. IsTrue (spec.is_index_array matrices.now cell.now.array)) }
 {
     match &cell.at {
         Subscripts::One(first) => {
@@ -113,7 +126,9 @@ pub fn mentions<'a>(
     alloc: Global,
     matrices: &[Matrix],
     e: &'a Index,
-) -> Result<Vec<Mention<'a>>, NoMemory> {
+) -> Result<Vec<Mention<'a>>, NoMemory>
+    ensures { IfOk result (λ v. IsTrue (list_all (spec.is_of_matrix matrices.now) v.items)) }
+{
     let mut all = Vec::new(alloc);
     push_mentions(&mut all, matrices, e)?;
     all.reverse();
@@ -126,7 +141,10 @@ fn push_mentions<'a>(
     all: &mut Vec<Mention<'a>>,
     matrices: &[Matrix],
     e: &'a Index,
-) -> Result<(), NoMemory> {
+) -> Result<(), NoMemory>
+    requires { IsTrue (list_all (spec.is_of_matrix matrices.now) all.old.items) }
+    ensures { OnOk result (IsTrue (list_all (spec.is_of_matrix matrices.now) all.new.items)) }
+{
     let mut rest = e;
     loop {
         match rest {
@@ -159,9 +177,14 @@ fn push_mentions<'a>(
 
 fn push_mention<'a>(
     all: &mut Vec<Mention<'a>>,
+    matrices: &[Matrix],
     array: &'a Name,
     at: &'a Index,
-) -> Result<(), NoMemory> {
+) -> Result<(), NoMemory>
+    requires array { IsTrue (spec.is_index_array matrices.now array.now) }
+    requires all { IsTrue (list_all (spec.is_of_matrix matrices.now) all.old.items) }
+    ensures { OnOk result (IsTrue (list_all (spec.is_of_matrix matrices.now) all.new.items)) }
+{
     all.push(Mention { array, at })?;
     Ok(())
 }
@@ -171,9 +194,12 @@ fn push_cell<'a>(
     all: &mut Vec<Mention<'a>>,
     matrices: &[Matrix],
     cell: &'a Cell,
-) -> Result<(), NoMemory> {
+) -> Result<(), NoMemory>
+    requires { IsTrue (list_all (spec.is_of_matrix matrices.now) all.old.items) }
+    ensures { OnOk result (IsTrue (list_all (spec.is_of_matrix matrices.now) all.new.items)) }
+{
     match term_subscript(matrices, cell) {
-        Some(at) => push_mention(all, &cell.array, at),
+        Some(at) => push_mention(all, matrices, &cell.array, at),
         None => push_inside(all, matrices, &cell.at),
     }
 }
@@ -183,7 +209,10 @@ fn push_inside<'a>(
     all: &mut Vec<Mention<'a>>,
     matrices: &[Matrix],
     at: &'a Subscripts,
-) -> Result<(), NoMemory> {
+) -> Result<(), NoMemory>
+    requires { IsTrue (list_all (spec.is_of_matrix matrices.now) all.old.items) }
+    ensures { OnOk result (IsTrue (list_all (spec.is_of_matrix matrices.now) all.new.items)) }
+{
     match at {
         Subscripts::One(a) => push_mentions(all, matrices, a.get()),
         Subscripts::Two(a, b) => {

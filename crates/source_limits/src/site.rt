@@ -1,8 +1,10 @@
 // The assignments of an executor, each with the loops and guards around it.
-ghost use Rattle.std.specs.Prelude.{◌≡◌, ◌+◌, ◌-◌, ◌≤◌, suc, length, take, vec_len, IsTrue, OnOk, IfOk};
+ghost use Rattle.std.specs.Prelude.{◌≡◌, List, ◌+◌, ◌-◌, ◌≤◌, suc, length, take, vec_len, IsTrue, OnOk, IfOk};
 ghost use Rattle.std.specs.List.{list_all};
 ghost use Rattle.c_judge.specs.Limits.{count_of, count_in};
 ghost use Rattle.c_judge.specs.declared.limits.Counted.TheVariants.{Assignments};
+ghost use Rattle.c_tree.specs.declared.program.Array.{Array};
+ghost use Rattle.source_limits.specs.Dimensions.{are_declared, is_declared_site, has_declared, have_declared};
 ghost use Rattle.source_limits.specs.Executor.{is_executed, are_executed};
 ghost use Rattle.source_limits.specs.Sites.{count_loops, is_shallow};
 
@@ -50,6 +52,7 @@ pub fn sites<'a>(alloc: Global, executor: &'a [Stmt]) -> Result<Vec<Site<'a>>, N
     ensures shallow { IfOk result (λ v. IsTrue (list_all is_shallow v.items)) }
     ensures count { IfOk result (λ v. length v.items ≡ count_of Assignments executor.now) }
     ensures some { IfOk result (λ v. length executor.now ≤ length v.items) }
+    ensures declared { (arrays : List Array) → IsTrue (have_declared arrays executor.now) → IfOk result (λ v. IsTrue (list_all (is_declared_site arrays) v.items)) }
 {
     let mut walk = Walk {
         alloc,
@@ -74,6 +77,7 @@ fn visit_all<'a>(walk: &mut Walk<'a>, statements: &'a [Stmt]) -> Result<(), NoMe
     ensures shallow { OnOk result (IsTrue (list_all is_shallow walk.new.sites.items)) }
     ensures count { OnOk result (length walk.new.sites.items ≡ length walk.old.sites.items + count_of Assignments statements.now) }
     ensures some { OnOk result (length walk.old.sites.items + length statements.now ≤ length walk.new.sites.items) }
+    ensures declared { (arrays : List Array) → IsTrue (list_all (is_declared_site arrays) walk.old.sites.items) → IsTrue (have_declared arrays statements.now) → OnOk result (IsTrue (list_all (is_declared_site arrays) walk.new.sites.items)) }
 {
     for statement in statements {
         visit(walk, statement)?;
@@ -90,6 +94,7 @@ fn visit<'a>(walk: &mut Walk<'a>, statement: &'a Stmt) -> Result<(), NoMemory>
     ensures shallow { OnOk result (IsTrue (list_all is_shallow walk.new.sites.items)) }
     ensures count { OnOk result (length walk.new.sites.items ≡ length walk.old.sites.items + count_in Assignments statement.now) }
     ensures some { OnOk result (length walk.old.sites.items + 1 ≤ length walk.new.sites.items) }
+    ensures declared { (arrays : List Array) → IsTrue (list_all (is_declared_site arrays) walk.old.sites.items) → IsTrue (has_declared arrays statement.now) → OnOk result (IsTrue (list_all (is_declared_site arrays) walk.new.sites.items)) }
 {
     match statement {
         Stmt::For {
@@ -122,6 +127,7 @@ fn visit_inside<'a>(walk: &mut Walk<'a>, body: &'a [Stmt]) -> Result<(), NoMemor
     ensures shallow { OnOk result (IsTrue (list_all is_shallow walk.new.sites.items)) }
     ensures count { OnOk result (length walk.new.sites.items ≡ length walk.old.sites.items + count_of Assignments body.now) }
     ensures some { OnOk result (length walk.old.sites.items + 1 ≤ length walk.new.sites.items) }
+    ensures declared { (arrays : List Array) → IsTrue (list_all (is_declared_site arrays) walk.old.sites.items) → IsTrue (have_declared arrays body.now) → OnOk result (IsTrue (list_all (is_declared_site arrays) walk.new.sites.items)) }
 {
     visit_all(walk, body)?;
     let _left = walk.path.pop();
@@ -169,6 +175,7 @@ fn add_site<'a>(
     ensures path { walk.new.path ≡ walk.old.path }
     ensures shallow { OnOk result (IsTrue (list_all is_shallow walk.new.sites.items)) }
     ensures count { OnOk result (length walk.new.sites.items ≡ length walk.old.sites.items + 1) }
+    ensures declared { (arrays : List Array) → IsTrue (list_all (is_declared_site arrays) walk.old.sites.items) → IsTrue (are_declared arrays target.now value.now) → OnOk result (IsTrue (list_all (is_declared_site arrays) walk.new.sites.items)) }
 {
     let around = Vec::from_slice(walk.alloc, walk.path.as_slice())?;
     let number = walk.sites.len();

@@ -4,6 +4,7 @@ use Rattle.c_tree.specs.declared.statement.Stmt.{the_lemmas}
 use Rattle.c_judge.specs.declared.limits.Counted.TheVariants.{Assignments}
 use Rattle.c_judge.specs.Limits.{count_in, count_of}
 use Rattle.c_judge.proofs.SizesAt.{count_for, count_if, count_assign}
+use Rattle.source_limits.proofs.Declaring.{declared-For, declared-If, body_assigned, body_declared}
 use Rattle.source_limits.proofs.Executing.{for_inside, if_inside, found, never-Put, never-Declare, never-Grow}
 use Rattle.source_limits.proofs.site.+visit.Goals as goal
 
@@ -46,3 +47,17 @@ visit-unreachable-requires-in-Declare t c = never-Declare c.args.statement.now _
 
 pub visit-unreachable-requires-in-Grow : goal.visit-unreachable-requires-in-Grow
 visit-unreachable-requires-in-Grow t c = never-Grow c.args.statement.now _ _ _ c.in-Grow.is c.requires.executed
+
+pub visit-returns-in_ok-enter_loop-in-For-clause-declared : goal.visit-returns-in_ok-enter_loop-in-For-clause-declared
+visit-returns-in_ok-enter_loop-in-For-clause-declared t c = λ arrays s h.
+    c.visit_inside.ensures.declared arrays (rw c.enter_loop.ensures.sites s)
+    (body_declared arrays c.args.statement.now _ c.in-For.body c.as_slice.result.now c.in-For.is (declared-For arrays c.in-For.var c.in-For.low c.in-For.high c.in-For.body) c.as_slice.ensures h)
+
+pub visit-returns-in_ok-enter_guard-in-If-clause-declared : goal.visit-returns-in_ok-enter_guard-in-If-clause-declared
+visit-returns-in_ok-enter_guard-in-If-clause-declared t c = λ arrays s h.
+    c.visit_inside-in-If.ensures.declared arrays (rw c.enter_guard.ensures.sites s)
+    (body_declared arrays c.args.statement.now _ c.in-If.body c.as_slice-in-If-2.result.now c.in-If.is (declared-If arrays c.in-If.tests c.in-If.body) c.as_slice-in-If-2.ensures h)
+
+pub visit-returns-in-Assign-clause-declared : goal.visit-returns-in-Assign-clause-declared
+visit-returns-in-Assign-clause-declared t c = λ arrays s h.
+    c.add_site.ensures.declared arrays s (body_assigned arrays c.args.statement.now c.in-Assign.target c.in-Assign.how c.in-Assign.value c.in-Assign.is h)
