@@ -2,12 +2,16 @@
 use Rattle.std.proofs.Common.{◌≡◌, ℕ, zero, suc, List, [], ◌∷◌, length, get_or, ap, sym, subst, ◌∙◌}
 use Rattle.std.specs.Prelude.{Result, Ok, Err, Some, IfOk, slice_get}
 use Rattle.chill_base.specs.declared.faults.Stop.{Stop}
+use Rattle.chill_base.specs.declared.faults.Stop.TheVariants.{Refused, NoMemory}
 use Rattle.nest_tree.specs.declared.fault.CommandFault.{CommandFault}
+use Rattle.nest_tree.specs.declared.fault.CommandFault.TheVariants.{Shape, Depends, Overflow}
 use Rattle.nest_tree.specs.declared.kernel.Kernel.{Kernel}
 use Rattle.nest_tree.specs.declared.kernel.Nest.{Nest}
 use Rattle.nest_core.specs.Shapes.{IsShapedNest}
 use Rattle.compact.specs.declared.plan.Plan.{Plan}
+use Rattle.depend_test.specs.Tested.{OnRefused}
 use Rattle.compact.specs.Entered.{IsNew}
+use Rattle.compact.specs.Shapes.{NamesNone, NamesFound}
 use Rattle.compact.specs.Statement.{compacted, counts_of}
 
 -- the one that is found is the one that is read
@@ -24,3 +28,11 @@ new-found k s level p xs old new t (Ok n) e d f over shaped is =
     let F : Nest → Type 0 = λ m. IsNew k s level p m in
     subst F (sym is) (record { old = old; found = f ∙ ap (λ (m : Nest). Some m) (sym same); over = over; shaped = shaped })
 new-found k s level p xs old new t (Err stop) e d f over shaped is = tt
+
+-- where no dependence is named, none is but the one that is found
+pub none-named : {A : Type 0} (k : Kernel) (s level : ℕ) (r : Result A (Stop CommandFault)) → OnRefused r NamesNone → OnRefused r (NamesFound k s level)
+none-named k s level (Ok x) f = tt
+none-named k s level (Err (Refused (Shape why))) f = tt
+none-named k s level (Err (Refused (Depends d))) f = absurd f
+none-named k s level (Err (Refused (Overflow e))) f = tt
+none-named k s level (Err NoMemory) f = tt

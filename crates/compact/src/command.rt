@@ -1,7 +1,8 @@
 // `compact`: a level runs over the values that the entries have.
-ghost use Rattle.std.specs.Prelude.{◌≡◌, ◌<◌, ◌≤◌, length, slice_get, IfOk, IfSome, OnOk, OnErr, Ok, Some};
+ghost use Rattle.std.specs.Prelude.{◌≡◌, ◌<◌, ◌≤◌, length, slice_get, IfOk, IfSome, OnOk, OnErr, Ok, Some, None};
 ghost use Rattle.nest_core.specs.Making.{Gives};
 ghost use Rattle.nest_core.specs.Shapes.{IsShaped, IsShapedNest};
+ghost use Rattle.depend_test.specs.Tested.{FindsAt, OnRefused};
 ghost use Rattle.inspectors.specs.Numbers.{IsKept};
 ghost use Rattle.one_statement.specs.Put as putting;
 ghost use Rattle.compact.specs.Entered as entered;
@@ -39,7 +40,8 @@ fn judged(kernel: &Kernel, statement: usize, level: usize, prefix: Name) -> Resu
 /// The statement, where its expressions have no more brackets than the limit.
 fn within(head: &Program, nest: Nest) -> Result<Nest, Stop<CommandFault>>
     requires { IsShapedNest head.now nest }
-    ensures { IfOk result (λ n. n ≡ nest) }
+    ensures value { IfOk result (λ n. n ≡ nest) }
+    ensures faults { OnRefused result shapes.NamesNone }
 {
     let nests = [nest];
     if !are_within(head, &nests) {
@@ -60,6 +62,7 @@ fn new_statement(
     requires shaped { IsShaped kernel.now }
     requires target { shapes.IsTarget kernel.now statement level plan.now.target }
     ensures new { IfOk result (λ n. entered.IsNew kernel.now statement level plan.now n) }
+    ensures faults { OnRefused result (shapes.NamesFound kernel.now statement level) }
 {
     let nest = &kernel.nests.as_slice()[statement];
     match compacted(
@@ -85,6 +88,8 @@ fn test(
     requires shaped { IsShaped kernel.now }
     requires statement { statement < length kernel.now.nests }
     requires level { IfSome (slice_get kernel.now.nests statement) (λ n. (1 ≤ level) × (level ≤ length n.levels)) }
+    ensures tested { OnOk result (FindsAt kernel.now statement level None) }
+    ensures faults { OnRefused result (shapes.NamesFound kernel.now statement level) }
 {
     match first_compact_dependence(alloc, kernel, statement, level) {
         Ok(Some(dependence)) => Err(Stop::Refused(CommandFault::Depends(dependence))),
@@ -128,6 +133,8 @@ fn compact_by(
     requires plan { IsPlan kernel.old statement level prefix plan.now }
     requires kept { IsKept plan.now.target.form }
     ensures compacted { OnOk result (IsCompacted kernel.old kernel.new statement level prefix) }
+    ensures tested { OnOk result (FindsAt kernel.old statement level None) }
+    ensures faults { OnRefused result (shapes.NamesFound kernel.old statement level) }
     ensures shaped { OnOk result (IsShaped kernel.new) }
     ensures unchanged { OnErr result (kernel.new ≡ kernel.old) }
 {
@@ -149,6 +156,8 @@ pub fn compact(
     requires { IsShaped kernel.old }
     ensures first { AnswersFirst (shapes.first_shape kernel.old statement level) result }
     ensures compacted { OnOk result (IsCompacted kernel.old kernel.new statement level name) }
+    ensures tested { OnOk result (FindsAt kernel.old statement level None) }
+    ensures faults { OnRefused result (shapes.NamesFound kernel.old statement level) }
     ensures shaped { OnOk result (IsShaped kernel.new) }
     ensures unchanged { OnErr result (kernel.new ≡ kernel.old) }
 {

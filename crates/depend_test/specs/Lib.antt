@@ -6,3 +6,4 @@ pub mod Orders
 pub mod Pairs
 pub mod Sides
 pub mod Systems
+pub mod Tested

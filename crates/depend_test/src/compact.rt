@@ -3,8 +3,8 @@ ghost use Rattle.std.specs.Prelude.{◌≡◌, ◌<◌, ◌≤◌, length, not, 
 ghost use Rattle.nest_core.specs.Shapes.{IsShaped};
 ghost use Rattle.depend_test.specs.First.{IsFirst};
 ghost use Rattle.depend_test.specs.Levels.{IsDecidedAt, first_access, with_access, access_pairs, level_dependence};
-ghost use Rattle.depend_test.specs.Sides.{IsSide, IsSame};
-ghost use Rattle.depend_test.specs.declared.side.Side.{Side as SideOf};
+ghost use Rattle.depend_test.specs.Sides.{IsSide};
+ghost use Rattle.depend_test.specs.Tested.{FindsAt};
 
 use crate::conflict::conflict;
 use crate::order::order_rows;
@@ -103,7 +103,7 @@ pub fn first_compact_dependence(
     requires shaped { IsShaped kernel.now }
     requires statement { statement < length kernel.now.nests }
     requires level { IfSome (slice_get kernel.now.nests statement) (λ n. (1 ≤ level) × (level ≤ length n.levels)) }
-    ensures { IfOk result (λ d. IfSome (slice_get kernel.now.nests statement) (λ n. (s : SideOf) × IsSame kernel.now.head kernel.now.made n s × IsFirst (IsDecidedAt kernel.now s level) (level_dependence statement level) (access_pairs s n.how) d)) }
+    ensures { IfOk result (λ d. FindsAt kernel.now statement level d) }
 {
     let nests = kernel.nests.as_slice();
     let nest = &nests[statement];

@@ -1,7 +1,8 @@
 // Tested commands.
-ghost use Rattle.std.specs.Prelude.{◌≡◌, Ok, OnOk, OnErr};
+ghost use Rattle.std.specs.Prelude.{◌≡◌, None, Ok, OnOk, OnErr};
 ghost use Rattle.nest_core.specs.Pieces.{kernel_made};
 ghost use Rattle.nest_core.specs.Shapes.{IsShaped, Fits};
+ghost use Rattle.depend_test.specs.Tested as spec;
 
 use crate::first::first_dependence;
 use chill_base::Stop;
@@ -11,7 +12,9 @@ use nest_tree::{CommandFault, Kernel, Moves};
 use std::alloc::Global;
 
 /// The answer of a command where set work gives none.
-pub fn overflow(stop: Stop<Excess>) -> Stop<CommandFault> {
+pub fn overflow(stop: Stop<Excess>) -> Stop<CommandFault>
+    ensures { result ≡ spec.overflow stop }
+{
     match stop {
         Stop::Refused(excess) => Stop::Refused(CommandFault::Overflow(excess)),
         Stop::NoMemory => Stop::NoMemory,
@@ -30,6 +33,8 @@ pub fn apply_tested(
     ensures shaped { OnOk result (IsShaped kernel.new) }
     ensures refused { OnErr result (kernel.new ≡ kernel.old) }
     ensures made { OnOk result (kernel_made kernel.old moves.now ≡ Ok kernel.new) }
+    ensures tested { OnOk result (spec.Finds kernel.old moves.now None) }
+    ensures faults { spec.OnRefused result (spec.IsTestFault kernel.old moves.now) }
 {
     let nests = match make_nests(alloc, kernel, moves) {
         Ok(nests) => nests,
