@@ -4,7 +4,8 @@ ghost use Rattle.nest_core.specs.Shapes.{IsShaped};
 ghost use Rattle.affine_moves.specs.Moves.{permute_moves, tile_moves};
 ghost use Rattle.fuse_distribute.specs.Fusing.{fuse_moves};
 ghost use Rattle.fuse_distribute.specs.Distributing.{distribute_moves};
-ghost use Rattle.affine_commands.specs.Commands.{IsMade, IsMoved, Refuses};
+ghost use Rattle.affine_commands.specs.Commands.{IsMade, IsMoved, IsMovedFault, Refuses};
+ghost use Rattle.depend_test.specs.Tested.{IsTestFault};
 
 use crate::fault::shape_fault;
 use affine_moves::{permute_moves, tile_moves};
@@ -26,7 +27,7 @@ pub fn permute(
     ensures shaped { OnOk result (IsShaped kernel.new) }
     ensures refused { OnErr result (kernel.new ≡ kernel.old) }
     ensures moved { OnOk result (IsMoved kernel.old kernel.new (permute_moves kernel.old statement order.now)) }
-    ensures shape { Refuses (permute_moves kernel.old statement order.now) result }
+    ensures shape { Refuses (IsMovedFault kernel.old) (permute_moves kernel.old statement order.now) result }
 {
     match permute_moves(alloc, kernel, statement, order) {
         Ok(Some(moves)) => apply_tested(alloc, kernel, &moves),
@@ -49,7 +50,7 @@ pub fn tile(
     ensures shaped { OnOk result (IsShaped kernel.new) }
     ensures refused { OnErr result (kernel.new ≡ kernel.old) }
     ensures made { OnOk result (IsMade kernel.old kernel.new (tile_moves kernel.old statement level size outer)) }
-    ensures shape { Refuses (tile_moves kernel.old statement level size outer) result }
+    ensures shape { Refuses (IsTestFault kernel.old) (tile_moves kernel.old statement level size outer) result }
 {
     match tile_moves(alloc, kernel, statement, level, size, outer) {
         Ok(moves) => apply_tested(alloc, kernel, &moves),
@@ -69,7 +70,7 @@ pub fn fuse(
     ensures shaped { OnOk result (IsShaped kernel.new) }
     ensures refused { OnErr result (kernel.new ≡ kernel.old) }
     ensures made { OnOk result (IsMade kernel.old kernel.new (fuse_moves kernel.old first second level)) }
-    ensures shape { Refuses (fuse_moves kernel.old first second level) result }
+    ensures shape { Refuses (IsTestFault kernel.old) (fuse_moves kernel.old first second level) result }
 {
     match fuse_moves(alloc, kernel, first, second, level) {
         Ok(moves) => apply_tested(alloc, kernel, &moves),
@@ -88,7 +89,7 @@ pub fn distribute(
     ensures shaped { OnOk result (IsShaped kernel.new) }
     ensures refused { OnErr result (kernel.new ≡ kernel.old) }
     ensures made { OnOk result (IsMade kernel.old kernel.new (distribute_moves kernel.old statement level)) }
-    ensures shape { Refuses (distribute_moves kernel.old statement level) result }
+    ensures shape { Refuses (IsTestFault kernel.old) (distribute_moves kernel.old statement level) result }
 {
     match distribute_moves(alloc, kernel, statement, level) {
         Ok(moves) => apply_tested(alloc, kernel, &moves),

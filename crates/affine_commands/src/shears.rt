@@ -4,7 +4,7 @@ ghost use Rattle.nest_core.specs.Shapes.{IsShaped, Fits};
 ghost use Rattle.nest_core.specs.Making.{Changes};
 ghost use Rattle.nest_core.specs.Pieces.{kernel_made};
 ghost use Rattle.affine_moves.specs.Moves.{shift_moves, skew_moves};
-ghost use Rattle.affine_commands.specs.Commands.{IsMoved, Refuses, overflowed, untested};
+ghost use Rattle.affine_commands.specs.Commands.{IsMoved, IsMovedFault, Refuses, overflowed, untested};
 
 use crate::fault::{overflow_fault, shape_fault};
 use affine_moves::{shift_moves, skew_moves};
@@ -26,7 +26,7 @@ pub fn shift(
     ensures shaped { OnOk result (IsShaped kernel.new) }
     ensures refused { OnErr result (kernel.new ≡ kernel.old) }
     ensures moved { OnOk result (IsMoved kernel.old kernel.new (shift_moves kernel.old statement level amount)) }
-    ensures shape { Refuses (shift_moves kernel.old statement level amount) result }
+    ensures shape { Refuses (IsMovedFault kernel.old) (shift_moves kernel.old statement level amount) result }
 {
     match shift_moves(alloc, kernel, statement, level, amount) {
         Ok(Some(moves)) => apply_tested(alloc, kernel, &moves),

@@ -1,7 +1,8 @@
 // `unroll`.
-ghost use Rattle.std.specs.Prelude.{◌≡◌, Ok, OnOk, OnErr, IfOk, IsTrue, slice_get};
+ghost use Rattle.std.specs.Prelude.{◌≡◌, false, Some, None, Ok, OnOk, OnErr, IfOk, IsTrue, slice_get};
 ghost use Rattle.nest_core.specs.Pieces.{kernel_made, moved_nests};
 ghost use Rattle.nest_core.specs.Shapes.{IsShaped, Fits};
+ghost use Rattle.depend_test.specs.Tested.{Finds, OnRefused};
 ghost use Rattle.unroll.specs.Moves.{unrolled};
 ghost use Rattle.affine_commands.specs.Commands.{IsUnrolled, NamesNoDependence};
 ghost use Rattle.affine_commands.specs.Commands as spec;
@@ -56,6 +57,8 @@ fn test_within(alloc: Global, kernel: &mut Kernel, moves: &Moves) -> Result<(), 
     ensures shaped { OnOk result (IsShaped kernel.new) }
     ensures refused { OnErr result (kernel.new ≡ kernel.old) }
     ensures made { OnOk result (kernel_made kernel.old moves.now ≡ Ok kernel.new) }
+    ensures tested { OnOk result (Finds kernel.old moves.now None) }
+    ensures faults { OnRefused result (spec.IsUnrollFault kernel.old false (Some moves.now)) }
 {
     make_within(alloc, kernel, moves)?;
     apply_tested(alloc, kernel, moves)
@@ -84,7 +87,8 @@ pub fn unroll(
     requires { IsShaped kernel.old }
     ensures shaped { OnOk result (IsShaped kernel.new) }
     ensures refused { OnErr result (kernel.new ≡ kernel.old) }
-    ensures made { OnOk result (IsUnrolled kernel.old kernel.new (unrolled kernel.old statement level factor)) }
+    ensures made { OnOk result (IsUnrolled kernel.old kernel.new (spec.is_innermost level (slice_get kernel.old.nests statement)) (unrolled kernel.old statement level factor)) }
+    ensures faults { OnRefused result (spec.IsUnrollFault kernel.old (spec.is_innermost level (slice_get kernel.old.nests statement)) (unrolled kernel.old statement level factor)) }
     ensures untested { IsTrue (spec.is_innermost level (slice_get kernel.old.nests statement)) → NamesNoDependence result }
 {
     let moves = match unroll_moves(alloc, kernel, statement, level, factor) {

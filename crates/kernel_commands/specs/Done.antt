@@ -1,5 +1,5 @@
 -- What a command of a recipe has done to a kernel where it is Ok.
-use Rattle.std.specs.Prelude.{◌≡◌, List, [], ◌∷◌, IfOk, Ok}
+use Rattle.std.specs.Prelude.{◌≡◌, List, [], ◌∷◌, slice_get, IfOk, Ok}
 use Rattle.nest_tree.specs.declared.kernel.Kernel.{Kernel}
 use Rattle.recipe_read.specs.declared.command.Command.{Command}
 use Rattle.recipe_read.specs.declared.command.Command.TheVariants.{Permute, Tile, Skew, Shift, Fuse, Distribute, Unroll, Datacopy, MakeDense, Compact, CompactAndPad}
@@ -7,7 +7,7 @@ use Rattle.affine_moves.specs.Moves.{permute_moves, tile_moves, skew_moves, shif
 use Rattle.fuse_distribute.specs.Fusing.{fuse_moves}
 use Rattle.fuse_distribute.specs.Distributing.{distribute_moves}
 use Rattle.unroll.specs.Moves.{unrolled}
-use Rattle.affine_commands.specs.Commands.{IsMade, IsMoved, IsUnrolled, untested}
+use Rattle.affine_commands.specs.Commands.{IsMade, IsMoved, IsUnrolled, is_innermost, untested}
 use Rattle.datacopy.specs.Copied.{IsCopied}
 use Rattle.make_dense.specs.Judge.{judged_matrix}
 use Rattle.make_dense.specs.Dense.{IsDense}
@@ -15,7 +15,7 @@ use Rattle.compact.specs.Entered.{IsCompacted}
 use Rattle.pad_layouts.specs.Plans.{plan_of}
 use Rattle.compact_pad.specs.Padded.{IsPadded}
 
--- The commands that move instances make the kernel of their moves. The others put in what they make: a copy and the
+-- The commands that move instances make the kernel of their moves, and those that may change an order are tested. The others put in what they make: a copy and the
 -- statement that fills it, a level for columns, a level over kept values, a padded statement.
 abbrev pub IsDone : Kernel → Kernel → Command → Type 0
 IsDone old new (Permute s order) = IsMoved old new (permute_moves old s order)
@@ -24,7 +24,7 @@ IsDone old new (Skew s level coefs) = untested old (skew_moves old s level coefs
 IsDone old new (Shift s level amount) = IsMoved old new (shift_moves old s level amount)
 IsDone old new (Fuse a b level) = IsMade old new (fuse_moves old a b level)
 IsDone old new (Distribute s level) = IsMade old new (distribute_moves old s level)
-IsDone old new (Unroll s level factor) = IsUnrolled old new (unrolled old s level factor)
+IsDone old new (Unroll s level factor) = IsUnrolled old new (is_innermost level (slice_get old.nests s)) (unrolled old s level factor)
 IsDone old new (Datacopy s level array copy) = IsCopied old new s level array copy
 IsDone old new (MakeDense s level) = IsDense old new s level (judged_matrix old s level)
 IsDone old new (Compact s level name) = IsCompacted old new s level name

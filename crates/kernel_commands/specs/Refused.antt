@@ -1,5 +1,5 @@
 -- How a command of a recipe is refused.
-use Rattle.std.specs.Prelude.{◌≡◌, ⊤, Result, Ok, Err, IsTrue, slice_get}
+use Rattle.std.specs.Prelude.{◌≡◌, ⊤, Result, Ok, Err, slice_get}
 use Rattle.chill_base.specs.declared.faults.Stop.{Stop}
 use Rattle.chill_base.specs.declared.faults.Stop.TheVariants.{Refused, NoMemory}
 use Rattle.nest_tree.specs.declared.fault.CommandFault.{CommandFault}
@@ -9,7 +9,9 @@ use Rattle.recipe_read.specs.declared.command.Command.TheVariants.{Permute, Tile
 use Rattle.affine_moves.specs.Moves.{permute_moves, tile_moves, skew_moves, shift_moves}
 use Rattle.fuse_distribute.specs.Fusing.{fuse_moves}
 use Rattle.fuse_distribute.specs.Distributing.{distribute_moves}
-use Rattle.affine_commands.specs.Commands.{Refuses, NamesNoDependence, is_innermost, untested}
+use Rattle.affine_commands.specs.Commands.{Refuses, IsMovedFault, IsUnrollFault, is_innermost, untested}
+use Rattle.depend_test.specs.Tested.{IsTestFault, OnRefused}
+use Rattle.unroll.specs.Moves.{unrolled}
 use Rattle.datacopy.specs.Copied as copied
 use Rattle.make_dense.specs.Judge.{judged_matrix}
 use Rattle.make_dense.specs.Dense as dense
@@ -24,15 +26,17 @@ IsFaultOf determined (Err (Refused fault)) = determined ≡ Err fault
 IsFaultOf determined (Err NoMemory) = ⊤
 
 -- Where a condition of a command isn't met, it answers by the lowest one; of the commands that change data this is said of the
--- conditions that are looked at before anything is made. What `skew` answers is determined. An innermost `unroll` names no dependence.
+-- conditions that are looked at before anything is made. What `skew` answers is determined. A dependence that the other commands
+-- that move instances name is the first that their test finds; where they have moves they answer no shape, but for `unroll`. An
+-- innermost `unroll` names no dependence.
 abbrev pub Answers : Kernel → Command → Result (Unit {0}) (Stop CommandFault) → Type 0
-Answers old (Permute s order) result = Refuses (permute_moves old s order) result
-Answers old (Tile s level size outer) result = Refuses (tile_moves old s level size outer) result
+Answers old (Permute s order) result = Refuses (IsMovedFault old) (permute_moves old s order) result
+Answers old (Tile s level size outer) result = Refuses (IsTestFault old) (tile_moves old s level size outer) result
 Answers old (Skew s level coefs) result = IsFaultOf (untested old (skew_moves old s level coefs)) result
-Answers old (Shift s level amount) result = Refuses (shift_moves old s level amount) result
-Answers old (Fuse a b level) result = Refuses (fuse_moves old a b level) result
-Answers old (Distribute s level) result = Refuses (distribute_moves old s level) result
-Answers old (Unroll s level factor) result = IsTrue (is_innermost level (slice_get old.nests s)) → NamesNoDependence result
+Answers old (Shift s level amount) result = Refuses (IsMovedFault old) (shift_moves old s level amount) result
+Answers old (Fuse a b level) result = Refuses (IsTestFault old) (fuse_moves old a b level) result
+Answers old (Distribute s level) result = Refuses (IsTestFault old) (distribute_moves old s level) result
+Answers old (Unroll s level factor) result = OnRefused result (IsUnrollFault old (is_innermost level (slice_get old.nests s)) (unrolled old s level factor))
 Answers old (Datacopy s level array copy) result = copied.AnswersFirst (copied.first_shape old s level array) result
 Answers old (MakeDense s level) result = dense.Refuses (judged_matrix old s level) result
 Answers old (Compact s level name) result = compacted.AnswersFirst (compacted.first_shape old s level) result
