@@ -7,7 +7,7 @@ use Rattle.int_rows.specs.declared.row.Excess.{Excess}
 use Rattle.nest_tree.specs.declared.kernel.Nest.{Nest}
 use Rattle.int_rows.specs.declared.row.Aff.{Aff}
 use Rattle.int_rows.specs.declared.row.Row.{Row}
-use Rattle.int_rows.specs.Systems.{Rows, excluded}
+use Rattle.int_rows.specs.Systems.{Rows, IsSystem, excluded}
 use Rattle.nest_tree.specs.declared.body.Access.{Access}
 use Rattle.nest_tree.specs.declared.fault.Dependence.{Dependence}
 use Rattle.depend_test.specs.First.{IsFirst, none, excluded as over, found}
@@ -31,13 +31,13 @@ module _ (k : Kernel) (s : Side) (level : ℕ) (first second : Access) where
 
   -- what the exclusion of the whole system says
   pub decided-at : (p : Pair) (equal equal' rows rows' : List Row) (early late : List Aff) (system all : Rows) (b : Bool) → IsPair k s s p → equal ≡ subscript_rows p first second → equal' ≡ equal → system ≡ extended p.system equal'
-      → early ≡ p.first_old → late ≡ p.second_old → rows ≡ order_rows p.first.vars level level early late → rows' ≡ rows → all ≡ extended system rows' → excluded all ≡ Ok b
+      → early ≡ p.first_old → late ≡ p.second_old → rows ≡ order_rows p.first.vars level level early late → rows' ≡ rows → all ≡ extended system rows' → IsSystem all → excluded all ≡ Ok b
       → IsDecidedAt k s level accesses (not (not b))
-  decided-at p equal equal' rows rows' early late system all b is are a c d e f g h x = record {
+  decided-at p equal equal' rows rows' early late system all b is are a c d e f g h small x = record {
     cell = record { pair = p; equal = equal; is_pair = is; are_equal = are };
     decided =
         let v : all ≡ with_old (extended p.system equal) p level level = rw (h, g, f, d, e, c, a) refl in
-        rw (← v, ← not-not b) x;
+        (rw (← v) small, rw (← v, ← not-not b) x);
   }
 
   pub pair-open : (b : Bool) → b ≡ true → IsDecidedAt k s level accesses (not b) → IsFirst (IsDecidedAt k s level) first_access (accesses ∷ []) (Some first)

@@ -1,8 +1,9 @@
 -- The systems in which two pieces stand.
 use Rattle.std.specs.Prelude.{◌≡◌, ℕ, Bool, true, List, [], ◌∷◌, map, length, Any, Ok}
+use Rattle.std.specs.List.{AllByRecursion}
 use Rattle.int_rows.specs.declared.row.Row.{Row}
 use Rattle.int_rows.specs.Exclusion.{exclusion}
-use Rattle.int_rows.specs.Systems.{Rows, excluded}
+use Rattle.int_rows.specs.Systems.{Rows, IsRowOf, IsSystem, excluded}
 use Rattle.nest_tree.specs.declared.kernel.Kernel.{Kernel}
 use Rattle.nest_tree.specs.declared.body.Access.{Access}
 use Rattle.nest_systems.specs.Extending.{extended}
@@ -51,9 +52,9 @@ with_new s p shared carrier = extended s (order_rows p.first.vars carrier shared
 abbrev pub with_orders : Rows → Pair → Orders → Carried → Rows
 with_orders s p o c = with_new (with_old s p o.old_shared c.old) p o.new_shared c.new
 
--- a system is decided by its exclusion: true, it is excluded; false, it is open
+-- a system, all whose numbers are within the limit of set work, is decided by its exclusion: true, it is excluded; false, it is open
 abbrev pub Decides : Rows → Bool → Type 0
-Decides s b = excluded s ≡ Ok b
+Decides s b = IsSystem s × (excluded s ≡ Ok b)
 
 abbrev pub DecidesNew : Rows → Pair → ℕ → ℕ → Bool → Type 0
 DecidesNew s p shared carrier = Decides (with_new s p shared carrier)
@@ -61,6 +62,6 @@ DecidesNew s p shared carrier = Decides (with_new s p shared carrier)
 abbrev pub DecidesOrders : Rows → Pair → Orders → Carried → Bool → Type 0
 DecidesOrders s p o c = Decides (with_orders s p o c)
 
--- one of the equalities alone is excluded
+-- one of the equalities, all whose numbers are within that limit, is excluded alone
 abbrev pub HasExcluded : ℕ → List Row → Type 0
-HasExcluded vars rows = Any (λ r. exclusion vars (r ∷ []) ≡ Ok true) rows
+HasExcluded vars rows = AllByRecursion (IsRowOf vars) rows × Any (λ r. exclusion vars (r ∷ []) ≡ Ok true) rows

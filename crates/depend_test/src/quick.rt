@@ -2,6 +2,7 @@
 ghost use Rattle.std.specs.Prelude.{◌≡◌, ◌∷◌, [], IsTrue, IfOk, Ok};
 ghost use Rattle.std.specs.List.{list_all};
 ghost use Rattle.int_rows.specs.Exclusion.{exclusion};
+ghost use Rattle.int_rows.specs.Systems.{IsRowOf};
 ghost use Rattle.nest_systems.specs.Owns.{row_has_vars};
 ghost use Rattle.depend_test.specs.Systems.{HasExcluded};
 
@@ -39,7 +40,7 @@ pub fn has_room(pair: &Pair) -> bool {
 /// Whether an equality alone has no integer point, as the first look at each system that has it shows.
 fn is_impossible(alloc: Global, vars: usize, row: &Row) -> Result<bool, SetFault>
     requires { IsTrue (row_has_vars vars row.now) }
-    ensures { IfOk result (λ b. exclusion vars (row.now ∷ []) ≡ Ok b) }
+    ensures { IfOk result (λ b. IsRowOf vars row.now × (exclusion vars (row.now ∷ []) ≡ Ok b)) }
 {
     let mut alone = System::new(alloc, vars);
     alone.push(copy_row(alloc, row)?)?;

@@ -19,9 +19,9 @@ use Rattle.depend_test.specs.Candidates.{Candidate, IsDecided, whole, alone}
 use Rattle.depend_test.specs.Orders.{order_rows}
 use Rattle.depend_test.specs.Systems.{SameCell, cell_system, with_orders, HasExcluded}
 use Rattle.pair_laws.specs.Pairs.{IsSideAt, StandBefore, pair_point}
-use Rattle.pair_laws.specs.Candidates.{IsSmallDecision, ExcludedHasNoInstances}
+use Rattle.pair_laws.specs.Candidates.{ExcludedHasNoInstances}
 use Rattle.pair_laws.proofs.Pairs.{old-met, new-met}
-use Rattle.pair_laws.proofs.Cells.{meets-once, at, equal-rows-met, cell-met}
+use Rattle.pair_laws.proofs.Cells.{meets-once, at, system-vars, equal-rows-met, cell-met}
 
 -- a row at a place of those that are met
 row-met : (q : List ℤ) (rows : List Row) (j : ℕ) (r : Row) → Meets q rows → j < length rows → slice_index_or rows j r ≡ r → MeetsRow q (slice_index_or rows j r)
@@ -32,8 +32,9 @@ row-met q (x ∷ rows) (suc j) r m l e = row-met q rows j r m.1 (omega (arith, l
 -- no row of those that are met is excluded alone
 none_alone : (vars : ℕ) (q : List ℤ) (rows : List Row) → Meets q rows → HasExcluded vars rows → ⊥
 none_alone vars q rows m h =
-    let met : MeetsRow q h.1 = subst (MeetsRow q) h.3 (row-met q rows h.0 h.1 m h.2 h.3) in
-    excluded_has_no_point vars (h.1 ∷ []) q h.4 (meets-once q (h.1 ∷ []) (met, tt))
+    let one = h.1 in
+    let met : MeetsRow q one.1 = subst (MeetsRow q) one.3 (row-met q rows one.0 one.1 m one.2 one.3) in
+    excluded_has_no_point vars (one.1 ∷ []) q one.4 (meets-once q (one.1 ∷ []) (met, tt))
 
 module _ (k : Kernel) (i : Input) (n m : Nest) (fs gs : List Aff) (c : Candidate) (vs us : List ℤ) (ranged : IsRanged k.head k.made i) (counts : HasNoCounts k.head k.made)
     (first : IsSideAt k i n fs c.one vs) (second : IsSideAt k i m gs c.other us) (x : IsIn c.first (cells n)) (y : IsIn c.second (cells m)) (same : map (value (point i n vs)) c.first.at ≡ map (value (point i m us)) c.second.at)
@@ -69,9 +70,12 @@ module _ (k : Kernel) (i : Input) (n m : Nest) (fs gs : List Aff) (c : Candidate
         (old-met k i n m fs gs c.one c.other w.pair vs us there c.carried.old c.orders.old_shared old parts.1))
         (new-met k i n m fs gs c.one c.other w.pair vs us there c.carried.new c.orders.new_shared new parts.2)
 
-  excluded-none : (b : Bool) → b ≡ true → (d : IsDecided k c b) → IsSmallDecision k c b d → ⊥
-  excluded-none _ e (whole b w d) small = no_point (with_orders (cell_system w) w.pair c.orders c.carried) q (d ∙ ap Ok e) (meets-once q ((with_orders (cell_system w) w.pair c.orders c.carried).rows) (all-met w small))
-  excluded-none _ e (alone w h) small = none_alone w.pair.first.vars q w.equal (equal-met w small) h
+  excluded-none : (b : Bool) → b ≡ true → IsDecided k c b → ⊥
+  excluded-none _ e (whole b w d) =
+      let rows : List Row = (with_orders (cell_system w) w.pair c.orders c.carried).rows in
+      let small : AreSmall w.pair.first.vars rows = subst (λ (v : ℕ). AreSmall v rows) (system-vars k i n m fs gs c.one c.other vs us ranged counts first second c.first c.second w) (d.0).each in
+      no_point (with_orders (cell_system w) w.pair c.orders c.carried) q (d.1 ∙ ap Ok e) (meets-once q rows (all-met w small))
+  excluded-none _ e (alone w h) = none_alone w.pair.first.vars q w.equal (equal-met w h.0) h
 
 pub no_instances : ExcludedHasNoInstances
-no_instances k i n m fs gs c vs us ranged counts decided first second x y same old new = excluded-none k i n m fs gs c vs us ranged counts first second x y same old new true refl decided.0 decided.1
+no_instances k i n m fs gs c vs us ranged counts decided first second x y same old new = excluded-none k i n m fs gs c vs us ranged counts first second x y same old new true refl decided

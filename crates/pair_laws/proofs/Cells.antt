@@ -1,5 +1,5 @@
 -- The system of two accesses that name one cell is met where they do.
-use Rattle.std.proofs.Common.{◌≡◌, ℕ, List, map, sym, ap, subst, arith, ℤ, pos, ◌+ℤ◌, ◌*ℤ◌, [], ◌∷◌}
+use Rattle.std.proofs.Common.{◌≡◌, ℕ, List, map, ◌∙◌, sym, ap, subst, arith, ℤ, pos, ◌+ℤ◌, ◌*ℤ◌, [], ◌∷◌}
 use Rattle.std.proofs.lemmas.Int.{ints}
 use Rattle.int_rows.specs.declared.row.Aff.{Aff}
 use Rattle.int_rows.specs.declared.row.Row.{Row}
@@ -40,6 +40,10 @@ module _ (k : Kernel) (i : Input) (n m : Nest) (fs gs : List Aff) (one other : S
 
   abbrev vars : ℕ
   vars = w.pair.first.vars
+
+  -- the variables of the pair's system are those of its first seats
+  pub system-vars : w.pair.system.vars ≡ vars
+  system-vars = ap (λ (r : Rows). r.vars) w.is_pair.system ∙ sym w.is_pair.first.vars
 
   system-met : AreSmall vars w.pair.system.rows → Meets q w.pair.system.rows
   system-met s =

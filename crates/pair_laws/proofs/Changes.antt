@@ -23,14 +23,13 @@ use Rattle.nest_laws.proofs.Lists.{in_append-left, in_append-right, pair_at-seco
 use Rattle.nest_systems.specs.Cells.{reads, cells}
 use Rattle.move_laws.proofs.Unchanged.{unchanged}
 use Rattle.point_laws.proofs.Readings.{at-got}
-use Rattle.depend_test.specs.Candidates.{Candidate, Between, dependence, between, with_both, carried_each, orders_between, of_accesses, of_pieces, of_piece, of_numbers, of_conflict, of_access, of_cell, of_statements, of_other, of_statement, candidates}
+use Rattle.depend_test.specs.Candidates.{Candidate, Between, IsDecided, IsDecidedBetween, dependence, between, with_both, carried_each, orders_between, of_accesses, of_pieces, of_piece, of_numbers, of_conflict, of_access, of_cell, of_statements, of_other, of_statement, candidates}
 use Rattle.depend_test.specs.Conflicts.{is_compound, conflict}
 use Rattle.depend_test.specs.Orders.{from_one, carriers}
 use Rattle.depend_test.specs.declared.first.Carried.{Carried}
 use Rattle.depend_test.specs.declared.side.Moved.{Moved}
 use Rattle.pair_laws.specs.Pairs.{StandBefore}
-use Rattle.pair_laws.specs.Candidates.{IsSmallDecided}
-use Rattle.pair_laws.specs.Changes.{IsTestedMove, IsSmallDecidedBetween, NoneOpenNoneChanges, TestKeepsEffect}
+use Rattle.pair_laws.specs.Changes.{IsTestedMove, NoneOpenNoneChanges, TestKeepsEffect}
 use Rattle.pair_laws.proofs.Candidates.{no_instances}
 use Rattle.pair_laws.proofs.Levels.{all-excluded, in-all, reads_at, numbered, at-in}
 
@@ -170,7 +169,7 @@ none_changes k i applies all moves ranged counts tested first others m x a b vs 
           (subst (IsAt r.first a) (sym one.side.accesses) r.first_at) (subst (IsAt r.second b) (sym two.side.accesses) r.second_at)
           (subst (IsAt r.first e.0) (sym s.by.accesses) e.1) (subst (IsAt r.second f.0) (sym t.by.accesses) f.1) conflicts applied old_in new_in in
           let v : Between = between s.number t.number e.0 z in
-          let decided : IsSmallDecided k z true = all-excluded (IsSmallDecidedBetween k) dependence (candidates all) None refl first v there in
+          let decided : IsDecided k z true = all-excluded (IsDecidedBetween k) dependence (candidates all) None refl first v there in
           let before : StandBefore o.0 (shared (s.moved).positions (t.moved).positions) (map (value (point i m.new ws)) (m.piece).old) (map (value (point i x.new zs)) (x.piece).old) =
           subst₂ (λ (u v : List ℤ). StandBefore o.0 (shared (s.moved).positions (t.moved).positions) u v) (sym gm.old) (sym gx.old) (subst₂ (λ (u v : List ℕ). StandBefore o.0 (shared u v) vs us) (sym s.by.positions) (sym t.by.positions) o.2) in
           let after : StandBefore w.0 (shared (t.side).positions (s.side).positions) zs ws = subst₂ (λ (u v : List ℕ). StandBefore w.0 (shared u v) zs ws) (sym new_t) (sym new_s) w.2 in

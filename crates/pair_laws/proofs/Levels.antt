@@ -1,5 +1,5 @@
 -- Where no candidate of a level is open, no two instances that differ first there name one cell.
-use Rattle.std.proofs.Common.{◌≡◌, inl, inr, ℕ, zero, suc, ◌+◌, Bool, true, false, cond, List, [], ◌∷◌, map, length, refl, sym, ◌∙◌, ap, subst, subst₂, ◌≤◌, arith, ℤ, nat_eq, bytes_eq}
+use Rattle.std.proofs.Common.{◌≡◌, inl, inr, ℕ, zero, suc, ◌+◌, Bool, true, false, cond, List, [], ◌∷◌, ◌++◌, map, length, refl, sym, ◌∙◌, ap, subst, subst₂, ◌≤◌, arith, ℤ, nat_eq, bytes_eq}
 use Rattle.std.specs.Prelude.{Option, None}
 use Rattle.std.specs.List.{range_with_len}
 use Rattle.std.proofs.lemmas.Bool.{eqb-true}
@@ -25,6 +25,7 @@ use Rattle.nest_laws.proofs.Lists.{in_append-left, in_append-right}
 use Rattle.nest_laws.proofs.Points.{length-map, by_places}
 use Rattle.nest_systems.specs.Cells.{reads_layer, reads, cells}
 use Rattle.nest_systems.specs.Spans.{unit_form}
+use Rattle.point_laws.specs.Values.{AreSmall}
 use Rattle.point_laws.proofs.Begun.{value-unit}
 use Rattle.point_laws.proofs.Own.{behind, before}
 use Rattle.point_laws.proofs.Seated.{coef-range}
@@ -37,8 +38,8 @@ use Rattle.depend_test.specs.Orders.{order_rows}
 use Rattle.depend_test.specs.Sides.{own_levels}
 use Rattle.depend_test.specs.Systems.{SameCell, cell_system, with_old}
 use Rattle.pair_laws.specs.Pairs.{StandBefore, pair_point}
-use Rattle.pair_laws.specs.Levels.{IsSmallDecidedAt, LevelHasNoDependence}
-use Rattle.pair_laws.proofs.Cells.{meets-once, at, cell-met}
+use Rattle.pair_laws.specs.Levels.{LevelHasNoDependence}
+use Rattle.pair_laws.proofs.Cells.{meets-once, at, system-vars, cell-met}
 use Rattle.pair_laws.proofs.Pairs.{old-met}
 
 -- ---- lists of candidates
@@ -151,14 +152,14 @@ no_dependence k i n s statement level vs us a b ranged counts same first one two
     let two_at : IsAt r.second b s.accesses = subst (IsAt r.second b) (sym is) r.second_at in
     let here : IsIn c (with_conflict n.how r.first a r.second b) = subst (λ (x : Bool). IsIn c (cond x (c ∷ []) [])) (sym r.conflicts) (inl refl) in
     let listed : IsIn c (access_pairs s n.how) = in-all (with_access s n.how) r.first s.accesses a c one_at (in-all (with_conflict n.how r.first a) r.second s.accesses b c two_at here) in
-    let e : IsSmallDecidedAt k s (suc level) c true = all-excluded (IsSmallDecidedAt k s (suc level)) (level_dependence statement (suc level)) (access_pairs s n.how) None refl first c listed in
-    let d : IsDecidedAt k s (suc level) c true = e.decided in
+    let d : IsDecidedAt k s (suc level) c true = all-excluded (IsDecidedAt k s (suc level)) (level_dependence statement (suc level)) (access_pairs s n.how) None refl first c listed in
     let w : SameCell k s s a b = d.cell in
     let fs : List Aff = own_levels k.head n in
     let q : List ℤ = pair_point i n n vs us s s in
     let vars : ℕ = w.pair.first.vars in
     let rows : List Row = order_rows vars (suc level) (suc level) w.pair.first_old w.pair.second_old in
-    let parts = small-append vars (cell_system w).rows rows e.small in
+    let small : AreSmall vars ((cell_system w).rows ++ rows) = subst (λ (v : ℕ). AreSmall v ((cell_system w).rows ++ rows)) (system-vars k i n n fs fs s s vs us ranged counts one two a b w) ((d.decided).0).each in
+    let parts = small-append vars (cell_system w).rows rows small in
     let order : StandBefore (suc level) (suc level) (map (value (point i n vs)) fs) (map (value (point i n us)) fs) =
     subst₂ (λ (x y : List ℤ). IsSmallerAt (suc level) x y) (sym (own-levels k i n vs ranged.count one.deep)) (sym (own-levels k i n us ranged.count two.deep)) smaller in
     let x : IsIn a (cells n) = at-in (cells n) r.first a r.first_at in
@@ -166,4 +167,4 @@ no_dependence k i n s statement level vs us a b ranged counts same first one two
     let met : Meets q (with_old (cell_system w) w.pair (suc level) (suc level)).rows =
     meets-append q (cell_system w).rows rows (cell-met k i n n fs fs s s vs us ranged counts one two a b w x y equal parts.0)
     (old-met k i n n fs fs s s w.pair vs us (at k i n n fs fs s s vs us ranged counts one two a b w) (suc level) (suc level) order parts.1) in
-    no_point (with_old (cell_system w) w.pair (suc level) (suc level)) q d.decided (meets-once q (with_old (cell_system w) w.pair (suc level) (suc level)).rows met)
+    no_point (with_old (cell_system w) w.pair (suc level) (suc level)) q (d.decided).1 (meets-once q (with_old (cell_system w) w.pair (suc level) (suc level)).rows met)

@@ -28,7 +28,7 @@ use Rattle.nest_systems.specs.Statements.{plain_row}
 use Rattle.nest_systems.specs.Sums as sums
 use Rattle.point_laws.specs.Ranges.{IsRanged, HasNoCounts}
 use Rattle.point_laws.specs.Values.{AreSmall}
-use Rattle.depend_test.specs.First.{IsFirst, none, excluded}
+use Rattle.depend_test.specs.First.{none, excluded}
 use Rattle.depend_test.specs.Orders as orders
 use Rattle.depend_test.specs.Pairs.{pair_system}
 use Rattle.depend_test.specs.Sides.{IsSideOf}
@@ -40,11 +40,11 @@ use Rattle.kernel_laws.proofs.Worked.{worked}
 use Rattle.nest_core.specs.Pieces.{pieces_made}
 use Rattle.nest_tree.specs.Moving.{Move}
 use Rattle.depend_test.specs.Candidates as candidates
-use Rattle.depend_test.specs.Candidates.{Candidate, Between, between, orders_between, whole, dependence}
+use Rattle.depend_test.specs.Candidates.{Candidate, Between, IsDecidedBetween, IsFirstDependence, between, orders_between, whole}
 use Rattle.depend_test.specs.Sides.{more, none as none_left}
 use Rattle.nest_systems.specs.Ranges.{value_span}
 use Rattle.depend_test.specs.Systems.{with_orders}
-use Rattle.pair_laws.specs.Changes.{IsTestedMove, IsSmallDecidedBetween, OthersStay}
+use Rattle.pair_laws.specs.Changes.{IsTestedMove, OthersStay}
 use Rattle.pair_laws.specs.Shifted.{kernel, shift, input, side, moved, applies, ShiftedLoop}
 use Rattle.pair_laws.proofs.Changes.{none_changes}
 use Rattle.pair_laws.proofs.Levels.{reads_at}
@@ -147,16 +147,19 @@ small-rows (r ∷ rs) h =
     let b = and_parts (nat_eq (length r.form.coefs) 3) (list_all is_small (numbers r.form)) a.0 in
     (record { width = eqb-true (length r.form.coefs) 3 b.0; small = b.1 }, small-rows rs a.1)
 
-decided : IsSmallDecidedBetween kernel (between 0 0 ones.target candidate) true
+decided : IsDecidedBetween kernel (between 0 0 ones.target candidate) true
 unfolding two_cells
-decided = (whole true two_cells (ap (λ (rs : List Row). systems.excluded (record { vars = 3; rows = rs })) rows-are ∙ is_excluded), subst (AreSmall 3) (sym rows-are) (small-rows rows refl))
+decided = whole true two_cells (
+  record { each = subst (AreSmall 3) (sym rows-are) (small-rows rows refl); count = subst (λ (rs : List Row). length rs ≤ 4096) (sym rows-are) (omega arith) },
+  ap (λ (rs : List Row). systems.excluded (record { vars = 3; rows = rs })) rows-are ∙ is_excluded,
+)
 
 candidates-are : candidates.candidates (moved ∷ []) ≡ between 0 0 ones.target candidate ∷ []
 unfolding candidates.candidates candidates.of_statement candidates.of_statements candidates.of_access candidates.of_numbers candidates.of_piece candidates.of_pieces
 candidates-are = refl
 
-none_open : IsFirst (IsSmallDecidedBetween kernel) dependence (candidates.candidates (moved ∷ [])) None
-none_open = subst (λ (cs : List Between). IsFirst (IsSmallDecidedBetween kernel) dependence cs None) (sym candidates-are) (excluded (between 0 0 ones.target candidate) [] None decided none)
+none_open : IsFirstDependence kernel (candidates.candidates (moved ∷ [])) None
+none_open = subst (λ (cs : List Between). IsFirstDependence kernel cs None) (sym candidates-are) (excluded (between 0 0 ones.target candidate) [] None decided none)
 
 -- ---- points
 ranged : IsRanged head [] input

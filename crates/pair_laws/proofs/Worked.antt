@@ -40,7 +40,6 @@ use Rattle.depend_test.specs.Sides.{IsSame, IsSideOf, own_levels}
 use Rattle.depend_test.specs.Systems.{SameCell, subscript_rows, cell_system, with_old}
 use Rattle.depend_test.specs.declared.pair.Pair.{Pair}
 use Rattle.pair_laws.specs.Pairs.{IsSideAt}
-use Rattle.pair_laws.specs.Levels.{IsSmallDecidedAt}
 use Rattle.pair_laws.specs.Examples.{head, form, cell, setting, kernel, input, side, SettingLoop}
 use Rattle.pair_laws.proofs.Levels.{reads_at}
 
@@ -134,19 +133,22 @@ small-rows (r ∷ rs) h =
 abbrev both : AccessPair
 both = record { first = cell; second = cell }
 
-decided : IsSmallDecidedAt kernel side 1 both true
+decided : IsDecidedAt kernel side 1 both true
 unfolding two_cells
 decided = record {
-  decided = record { cell = two_cells; decided = ap (λ (rs : List Row). systems.excluded (record { vars = 3; rows = rs })) rows-are ∙ is_excluded };
-  small = subst (AreSmall 3) (sym rows-are) (small-rows rows refl);
+  cell = two_cells;
+  decided = (
+    record { each = subst (AreSmall 3) (sym rows-are) (small-rows rows refl); count = subst (λ (rs : List Row). length rs ≤ 4096) (sym rows-are) (omega arith) },
+    ap (λ (rs : List Row). systems.excluded (record { vars = 3; rows = rs })) rows-are ∙ is_excluded,
+  );
 }
 
 pairs-are : access_pairs side Write ≡ both ∷ []
 unfolding levels.access_pairs levels.with_access
 pairs-are = refl
 
-none_open : IsFirst (IsSmallDecidedAt kernel side 1) (level_dependence 0 1) (access_pairs side Write) None
-none_open = subst (λ (cs : List AccessPair). IsFirst (IsSmallDecidedAt kernel side 1) (level_dependence 0 1) cs None) (sym pairs-are) (excluded both [] None decided none)
+none_open : IsFirst (IsDecidedAt kernel side 1) (level_dependence 0 1) (access_pairs side Write) None
+none_open = subst (λ (cs : List AccessPair). IsFirst (IsDecidedAt kernel side 1) (level_dependence 0 1) cs None) (sym pairs-are) (excluded both [] None decided none)
 
 -- ---- points
 ranged : IsRanged head [] input

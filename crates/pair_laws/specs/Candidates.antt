@@ -1,5 +1,5 @@
 -- What it means that a candidate is decided: no two instances name one cell and change their order as it says.
-use Rattle.std.specs.Prelude.{Bool, ◌≡◌, true, List, map, ℤ}
+use Rattle.std.specs.Prelude.{◌≡◌, true, List, map, ℤ}
 use Rattle.int_rows.specs.declared.row.Aff.{Aff}
 use Rattle.nest_tree.specs.declared.kernel.Kernel.{Kernel}
 use Rattle.nest_tree.specs.declared.kernel.Nest.{Nest}
@@ -9,24 +9,13 @@ use Rattle.nest_tree.specs.Kernels.{point}
 use Rattle.nest_tree.specs.Terms.{Input}
 use Rattle.nest_systems.specs.Cells.{cells}
 use Rattle.point_laws.specs.Ranges.{IsRanged, HasNoCounts}
-use Rattle.point_laws.specs.Values.{AreSmall}
-use Rattle.depend_test.specs.Candidates.{Candidate, IsDecided, whole, alone}
-use Rattle.depend_test.specs.Systems.{cell_system, with_orders}
+use Rattle.depend_test.specs.Candidates.{Candidate, IsDecided}
 use Rattle.pair_laws.specs.Pairs.{IsSideAt, StandBefore}
-
--- a decision all whose numbers are within the limit of set work: those of the whole system, or those of the equalities
-abbrev pub IsSmallDecision : (k : Kernel) (c : Candidate) (b : Bool) → IsDecided k c b → Type 0
-IsSmallDecision k c _ (whole b w d) = AreSmall w.pair.first.vars (with_orders (cell_system w) w.pair c.orders c.carried).rows
-IsSmallDecision k c _ (alone w h) = AreSmall w.pair.first.vars w.equal
-
--- the candidate is decided so
-abbrev pub IsSmallDecided : Kernel → Candidate → Bool → Type 0
-IsSmallDecided k c b = (d : IsDecided k c b) × IsSmallDecision k c b d
 
 -- where a candidate is excluded, no two points of its statements name one cell by its accesses and have its old order and the opposite new one
 abbrev pub ExcludedHasNoInstances : Type 0
 ExcludedHasNoInstances =
     (k : Kernel) (i : Input) (n m : Nest) (fs gs : List Aff) (c : Candidate) (vs us : List ℤ) → IsRanged k.head k.made i → HasNoCounts k.head k.made
-    → IsSmallDecided k c true → IsSideAt k i n fs c.one vs → IsSideAt k i m gs c.other us → IsIn c.first (cells n) → IsIn c.second (cells m)
+    → IsDecided k c true → IsSideAt k i n fs c.one vs → IsSideAt k i m gs c.other us → IsIn c.first (cells n) → IsIn c.second (cells m)
     → map (value (point i n vs)) c.first.at ≡ map (value (point i m us)) c.second.at
     → StandBefore c.carried.old c.orders.old_shared (map (value (point i n vs)) fs) (map (value (point i m us)) gs) → StandBefore c.carried.new c.orders.new_shared us vs → ⊥

@@ -17,13 +17,11 @@ use Rattle.nest_tree.specs.Rewriting.{IsRewritten}
 use Rattle.nest_tree.specs.Terms.{Input}
 use Rattle.move_laws.specs.Unchanged.{NoneChanges}
 use Rattle.point_laws.specs.Ranges.{IsRanged, HasNoCounts}
-use Rattle.depend_test.specs.Candidates.{Between, candidates, dependence}
-use Rattle.depend_test.specs.First.{IsFirst}
+use Rattle.depend_test.specs.Candidates.{candidates, IsFirstDependence}
 use Rattle.depend_test.specs.Sides.{IsMovedBy}
 use Rattle.depend_test.specs.declared.side.Moved.{Moved}
 use Rattle.depend_test.specs.declared.side.Side.{Side}
 use Rattle.pair_laws.specs.Pairs.{IsSideAt}
-use Rattle.pair_laws.specs.Candidates.{IsSmallDecided}
 
 -- what the test has of a move: what it has of its old statement, and the side of its piece
 pub record IsTestedMove (k : Kernel) (i : Input) (applies : Move → Bool) (all : List Moved) (x : Move) : Type 0 where
@@ -37,10 +35,6 @@ pub record IsTestedMove (k : Kernel) (i : Input) (applies : Move → Bool) (all 
   pub rewritten : IsRewritten (length i.params) x
   pub points : (ws : List ℤ) → IsPointOf i x.new ws → IsSideAt k i x.new (x.piece).old side ws
 
--- the candidate between two statements is decided, and all numbers are within the limit
-abbrev pub IsSmallDecidedBetween : Kernel → Between → Bool → Type 0
-IsSmallDecidedBetween k b = IsSmallDecided k b.candidate
-
 -- two instances to which the command doesn't apply don't change their order
 abbrev pub OthersStay : Input → (Move → Bool) → List Move → Type 0
 OthersStay i applies moves =
@@ -51,12 +45,12 @@ OthersStay i applies moves =
 abbrev pub NoneOpenNoneChanges : Type 0
 NoneOpenNoneChanges =
     (k : Kernel) (i : Input) (applies : Move → Bool) (all : List Moved) (moves : List Move) → IsRanged k.head k.made i → HasNoCounts k.head k.made → ((x : Move) → IsIn x moves → IsTestedMove k i applies all x)
-    → IsFirst (IsSmallDecidedBetween k) dependence (candidates all) None → OthersStay i applies moves → NoneChanges i moves
+    → IsFirstDependence k (candidates all) None → OthersStay i applies moves → NoneChanges i moves
 
 -- and so the effect on all arrays stays
 abbrev pub TestKeepsEffect : Type 0
 TestKeepsEffect =
     (k : Kernel) (i : Input) (applies : Move → Bool) (all : List Moved) (moves : List Move) (new : List Nest) → IsRanged k.head k.made i → HasNoCounts k.head k.made → ((x : Move) → IsIn x moves → IsTestedMove k i applies all x)
-    → IsFirst (IsSmallDecidedBetween k) dependence (candidates all) None → OthersStay i applies moves
+    → IsFirstDependence k (candidates all) None → OthersStay i applies moves
     → IsMade moves k.nests new → ((x : Move) → IsIn x moves → StandsFor act i x) → ArePieces i moves k.nests → AreDistinct k.nests → SubscriptsFit moves
     → (xs ys : List (Item Step)) → IsKernelList act i k.nests xs → IsKernelList act i new ys → (s : Cells) → effect_of ys s ≡ effect_of xs s

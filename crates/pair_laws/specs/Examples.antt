@@ -14,11 +14,10 @@ use Rattle.nest_systems.specs.Choosing.{none_chosen}
 use Rattle.nest_systems.specs.Statements.{plain_row}
 use Rattle.point_laws.specs.Ranges.{IsRanged}
 use Rattle.depend_test.specs.First.{IsFirst}
-use Rattle.depend_test.specs.Levels.{access_pairs, level_dependence}
+use Rattle.depend_test.specs.Levels.{IsDecidedAt, access_pairs, level_dependence}
 use Rattle.depend_test.specs.Sides.{IsSame, own_levels}
 use Rattle.depend_test.specs.declared.side.Side.{Side}
 use Rattle.pair_laws.specs.Pairs.{IsSideAt}
-use Rattle.pair_laws.specs.Levels.{IsSmallDecidedAt}
 
 abbrev pub n : List ℕ
 n = 110 ∷ []
@@ -69,5 +68,5 @@ side = record {
 -- that is what the code has of it; its one candidate at level 1 is excluded; and 1 and 2 are points of it, so that all premises of the law hold but that they name one cell
 abbrev pub SettingLoop : Type 0
 SettingLoop =
-    IsSame head [] setting side × IsFirst (IsSmallDecidedAt kernel side 1) (level_dependence 0 1) (access_pairs side Write) None
+    IsSame head [] setting side × IsFirst (IsDecidedAt kernel side 1) (level_dependence 0 1) (access_pairs side Write) None
     × IsRanged head [] input × IsSideAt kernel input setting (own_levels head setting) side (pos 1 ∷ []) × IsSideAt kernel input setting (own_levels head setting) side (pos 2 ∷ [])

@@ -1,5 +1,5 @@
 -- What it means that a level has no dependence.
-use Rattle.std.specs.Prelude.{◌≡◌, ℕ, suc, Bool, List, map, ℤ, None}
+use Rattle.std.specs.Prelude.{◌≡◌, ℕ, suc, List, map, ℤ, None}
 use Rattle.nest_tree.specs.declared.body.Access.{Access}
 use Rattle.nest_tree.specs.declared.kernel.Kernel.{Kernel}
 use Rattle.nest_tree.specs.declared.kernel.Nest.{Nest}
@@ -9,22 +9,15 @@ use Rattle.nest_tree.specs.Kernels.{point}
 use Rattle.nest_tree.specs.Systems.{Clash}
 use Rattle.nest_tree.specs.Terms.{Input}
 use Rattle.point_laws.specs.Ranges.{IsRanged, HasNoCounts}
-use Rattle.point_laws.specs.Values.{AreSmall}
 use Rattle.depend_test.specs.First.{IsFirst}
-use Rattle.depend_test.specs.Levels.{AccessPair, IsDecidedAt, access_pairs, level_dependence}
+use Rattle.depend_test.specs.Levels.{IsDecidedAt, access_pairs, level_dependence}
 use Rattle.depend_test.specs.Sides.{IsSame, own_levels}
-use Rattle.depend_test.specs.Systems.{cell_system, with_old}
 use Rattle.depend_test.specs.declared.side.Side.{Side}
 use Rattle.pair_laws.specs.Pairs.{IsSideAt}
-
--- two accesses are decided at a level, and all numbers of their system are within the limit of set work
-pub record IsSmallDecidedAt (k : Kernel) (s : Side) (level : ℕ) (c : AccessPair) (b : Bool) : Type 0 where
-  pub decided : IsDecidedAt k s level c b
-  pub small : AreSmall (decided.cell).pair.first.vars (with_old (cell_system decided.cell) (decided.cell).pair level level).rows
 
 -- where no candidate is open at a level, counted from 1, no two instances of the statement that differ first there name one cell by conflicting accesses
 abbrev pub LevelHasNoDependence : Type 0
 LevelHasNoDependence =
     (k : Kernel) (i : Input) (n : Nest) (s : Side) (statement level : ℕ) (vs us : List ℤ) (a b : Access) → IsRanged k.head k.made i → HasNoCounts k.head k.made → IsSame k.head k.made n s
-    → IsFirst (IsSmallDecidedAt k s (suc level)) (level_dependence statement (suc level)) (access_pairs s n.how) None
+    → IsFirst (IsDecidedAt k s (suc level)) (level_dependence statement (suc level)) (access_pairs s n.how) None
     → IsSideAt k i n (own_levels k.head n) s vs → IsSideAt k i n (own_levels k.head n) s us → Clash n n a b → map (value (point i n vs)) a.at ≡ map (value (point i n us)) b.at → IsSmallerAt (suc level) vs us → ⊥

@@ -10,11 +10,10 @@ use Rattle.nest_systems.specs.Statements.{plain_row}
 use Rattle.kernel_laws.specs.Examples.{head, ones, by_five, shifted_ones}
 use Rattle.move_laws.specs.Unchanged.{NoneChanges}
 use Rattle.point_laws.specs.Ranges.{IsRanged}
-use Rattle.depend_test.specs.Candidates.{candidates, dependence}
-use Rattle.depend_test.specs.First.{IsFirst}
+use Rattle.depend_test.specs.Candidates.{candidates, IsFirstDependence}
 use Rattle.depend_test.specs.declared.side.Moved.{Moved}
 use Rattle.depend_test.specs.declared.side.Side.{Side}
-use Rattle.pair_laws.specs.Changes.{IsTestedMove, IsSmallDecidedBetween, OthersStay}
+use Rattle.pair_laws.specs.Changes.{IsTestedMove, OthersStay}
 
 abbrev pub kernel : Kernel
 kernel = record { head = head; made = []; nests = ones ∷ [] }
@@ -44,5 +43,5 @@ applies x = true
 -- the move is tested, its one candidate is excluded, the command applies to all, and so no two instances change their order
 abbrev pub ShiftedLoop : Type 0
 ShiftedLoop =
-    IsRanged head [] input × ((x : Move) → IsIn x (shift ∷ []) → IsTestedMove kernel input applies (moved ∷ []) x) × IsFirst (IsSmallDecidedBetween kernel) dependence (candidates (moved ∷ [])) None
+    IsRanged head [] input × ((x : Move) → IsIn x (shift ∷ []) → IsTestedMove kernel input applies (moved ∷ []) x) × IsFirstDependence kernel (candidates (moved ∷ [])) None
     × OthersStay input applies (shift ∷ []) × NoneChanges input (shift ∷ [])
