@@ -16,7 +16,7 @@ use Rattle.scanning_laws.specs.Examples.{nested_reads}
 use Rattle.printed_laws.specs.Printed.{Sees, CanBeRead}
 use Rattle.printed_laws.specs.Seeing.{SeesOutside}
 use Rattle.printed_laws.specs.Between.{IsRow, IsBetween}
-use Rattle.printed_laws.specs.Examples.{sight, input, levels, sizes, twice_column, printed, eighth, asked, rows, scene, two_loops, WorkedForm, WorkedBound, WorkedTest, WorkedRows, WorkedLevels, WorkedSides}
+use Rattle.printed_laws.specs.Examples.{sight, input, levels, sizes, twice_column, printed, eighth, asked, rows, scene, two_loops, WorkedForm, WorkedBound, WorkedTest, WorkedRows, WorkedLevels, WorkedSides, WorkedInnerRow}
 use Rattle.printed_laws.proofs.Bounds.{forms_have_values, bounds_have_values, tests_say}
 use Rattle.printed_laws.proofs.Between.{between}
 use Rattle.printed_laws.proofs.Seeing.{loops_see}
@@ -105,3 +105,6 @@ worked_sides = (
   refl,
   refl,
 )
+
+pub worked_inner_row : WorkedInnerRow
+worked_inner_row = (record { before = refl; fits = omega arith }, refl)

@@ -8,5 +8,7 @@ pub mod Heads
 pub mod Examples
 pub mod Seeing
 pub mod Between
+pub mod Marked
 pub mod Opened
+pub mod Assigned
 pub mod Orders

@@ -32,6 +32,7 @@ use Rattle.scanning.specs.Parts.{Part, context_of, sizes_of, number_of}
 use Rattle.scanning.specs.Heads.{bound_reads, order_of}
 use Rattle.scanning.specs.Sides.{sides_of, sides_by, left_sides, bounding, several, projected, instance_of_part}
 use Rattle.scanning_laws.specs.Valued.{only_where, founds_from, befores_from, Says}
+use Rattle.scanning_laws.specs.Asking.{InnerFirst}
 use Rattle.scanning_laws.specs.Naming.{IsTable}
 use Rattle.scanning_laws.proofs.Derived.{came}
 use Rattle.scanning_laws.proofs.Naming.{names_more}
@@ -40,9 +41,10 @@ use Rattle.scanning_laws.proofs.Valued.{zero_is, where-same, founds-same}
 use Rattle.printed_laws.specs.Printed.{AreDistinct}
 use Rattle.printed_laws.specs.Loops.{low_of, high_of, own_low, own_high, CanBePrinted}
 use Rattle.printed_laws.specs.Between.{is_small, IsRow, AreBounds, IsBetween, HoldsWith}
-use Rattle.printed_laws.specs.Opened.{Readable, Holding, Found, IsLevelRow, AreSides, OpenedLoopsDo}
+use Rattle.printed_laws.specs.Opened.{Readable, Holding, Found, IsLevelRow, AreSides, RestsOn, OpenedLoopsDo}
 use Rattle.printed_laws.proofs.Parts.{ok_same}
-use Rattle.printed_laws.proofs.Forms.{marked, held_or_not}
+use Rattle.printed_laws.proofs.Forms.{marked, where_marked, held_or_not}
+use Rattle.printed_laws.proofs.Marked.{HoldsMarked, BoundsHoldMarked, sides_in_order, rest_in_order}
 use Rattle.printed_laws.proofs.Cells.{both}
 use Rattle.printed_laws.proofs.Bounds.{tests_say}
 use Rattle.printed_laws.proofs.Heads.{heads_have_values}
@@ -57,7 +59,7 @@ or_true : (b c : Bool) → c ≡ true → (b || c) ≡ true
 or_true true c h = refl
 or_true false c h = h
 
-marked_where : (bs : List Bool) (zs : List ℤ) → ((j : ℕ) → (number_at j zs ≡ pos 0 → ⊥) → marked j bs ≡ true) → only_where bs zs ≡ true
+pub marked_where : (bs : List Bool) (zs : List ℤ) → ((j : ℕ) → (number_at j zs ≡ pos 0 → ⊥) → marked j bs ≡ true) → only_where bs zs ≡ true
 marked_where [] zs h = zeros_from zs (λ j. elim (held_or_not (number_at j zs)) [ inl e ↦ e | inr n ↦ absurd (let f : false ≡ true = h j n in cc) ])
 marked_where (b ∷ bs) [] h = refl
 marked_where (b ∷ bs) (z ∷ zs) h = and_from (b || is_zero z) (only_where bs zs) (first (held_or_not z)) (marked_where bs zs (λ j. h (suc j)))
@@ -66,7 +68,7 @@ marked_where (b ∷ bs) (z ∷ zs) h = and_from (b || is_zero z) (only_where bs 
     first (inl e) = or_true b (is_zero z) ((Decides-int_eq z (pos 0)).1 e)
     first (inr n) = ap (λ (t : Bool). t || is_zero z) (h zero n)
 
-held_inside : (zs : List ℤ) (j : ℕ) → (number_at j zs ≡ pos 0 → ⊥) → j < length zs
+pub held_inside : (zs : List ℤ) (j : ℕ) → (number_at j zs ≡ pos 0 → ⊥) → j < length zs
 held_inside [] j n = absurd (n refl)
 held_inside (z ∷ zs) zero n = omega arith
 held_inside (z ∷ zs) (suc j) n = let l = held_inside zs j n in omega (arith, l)
@@ -108,6 +110,15 @@ opposite_where (false ∷ bs) (z ∷ zs) s h =
     let p = and_parts (is_small z) (list_all is_small zs) s in
     let a = and_parts (false || is_zero (opposite z)) (only_where bs (map opposite zs)) h in
     and_from (false || is_zero z) (only_where bs zs) (opposite_zero z p.0 a.0) (opposite_where bs zs p.1 a.1)
+
+-- turned numbers are zero at the same places
+where_opposite : (bs : List Bool) (zs : List ℤ) → only_where bs zs ≡ true → only_where bs (map opposite zs) ≡ true
+where_opposite bs zs h = marked_where bs (map opposite zs) (λ j n. where_marked bs zs j h (λ e. n (opposite_at zs j e)))
+  where
+    opposite_at : (zs : List ℤ) (j : ℕ) → number_at j zs ≡ pos 0 → number_at j (map opposite zs) ≡ pos 0
+    opposite_at [] j e = refl
+    opposite_at (z ∷ zs) zero e = ap opposite e
+    opposite_at (z ∷ zs) (suc j) e = opposite_at zs j e
 
 same_length : {A B : Type 0} (f : A → B) (xs : List A) → length (map f xs) ≡ length xs
 same_length f [] = refl
@@ -292,6 +303,38 @@ module _ (i : Input) (table : List Read) (t : IsTable table) (e : Levels) where
   rows_fit [] all = tt
   rows_fit (c ∷ cs) all = (λ d. ((let l = same_length opposite c.form.reads in let f = (all.0).fits in omega (arith, l, f)), (all.0).fits), rows_fit cs all.1)
 
+  -- the bounds of rows that hold only marked reads hold only such reads
+  abbrev befores : List Bool
+  befores = befores_from (length e) [] table
+
+  abbrev HasMarks : Bound → Type 0
+  HasMarks b = only_where befores b.form.reads ≡ true
+
+  rows_marked : (cs : List Claim) → AllByRecursion (IsLevelRow i table e) cs → AllByRecursion (OfRow HasMarks q) cs
+  rows_marked [] all = tt
+  rows_marked (c ∷ cs) all = (λ d. (where_opposite befores c.form.reads (all.0).before, (all.0).before), rows_marked cs all.1)
+
+  bounds_marked : (bs : List Bound) → AllByRecursion HasMarks bs → BoundsHoldMarked (length e) table t bs
+  bounds_marked [] h = tt
+  bounds_marked (b ∷ bs) h = (λ j n. where_marked befores b.form.reads j h.0 n, bounds_marked bs h.1)
+
+  sides_marked : (ds : List Sides) → AllByRecursion (IsMade q) ds → AllByRecursion (AreSides i table e) ds
+      → AllByRecursion (λ d. BoundsHoldMarked (length e) table t (d.bounds).lower) ds × AllByRecursion (λ d. BoundsHoldMarked (length e) table t (d.bounds).upper) ds
+  unfolding AllOfBounds
+  sides_marked [] m w = (tt, tt)
+  sides_marked (d ∷ ds) m w =
+      let own : AllOfBounds HasMarks d.bounds = subst (AllOfBounds HasMarks) (sym m.0) (claims_all HasMarks q d.used (record { lower = []; upper = [] }) (rows_marked d.used (w.0).rows) (tt, tt)) in
+      let rest = sides_marked ds m.1 w.1 in
+      ((bounds_marked (d.bounds).lower own.0, rest.0), (bounds_marked (d.bounds).upper own.1, rest.1))
+
+  -- so the reads of a loop's bounds come inner ones first
+  reads_in_order : (k : Kernel) (ds : List Sides) → AllByRecursion (IsMade q) ds → AllByRecursion (AreSides i table e) ds → InnerFirst (RestsOn table e) (bound_reads k table ds) []
+  reads_in_order k ds m w =
+      let marks = sides_marked ds m w in
+      let lows = sides_in_order (length e) table t (λ d. (d.bounds).lower) ds [] (tt, λ j m. absurd m) marks.0 in
+      let all = sides_in_order (length e) table t (λ d. (d.bounds).upper) ds (fold (λ ns d. fold (λ ms b. named table ms b.form) ns (d.bounds).lower) [] ds) lows marks.1 in
+      rest_in_order table e (bound_reads k table ds) [] all.0 all.1
+
   seen_all : (ns : List ℕ) → ((j : ℕ) → IsIn j ns → Found i table e j) → (bs : List Bound) → AllByRecursion Fits bs → AllByRecursion (IsNamed table t ns) bs → AllByRecursion (λ b. Seen b.form) bs
   seen_all ns found [] f n = tt
   seen_all ns found (b ∷ bs) f n =
@@ -359,14 +402,15 @@ module _ (i : Input) (table : List Read) (t : IsTable table) (e : Levels) where
   first_order (d ∷ ds) h = (h.0).order
 
 pub opened_do : OpenedLoopsDo
-opened_do k table a ps o w s i e sees t long some sides all asks first =
+opened_do k table a ps o w s i e sees t long some sides all asks =
     let ds : List Sides = printed_sides w.sides in
     let reads : List ℕ = bound_reads k table ds in
     let says = tests_say k table (order_of ds) (sizes_of a) (number_of ps) s i e sees (first_order i table t e ds sides) in
-    let r = opened_asks k table (Readable i table e) (Holding i table e) (Found i table e) _ s asks a ps o w all first says in
     let made : AllByRecursion (IsMade (suc (length e))) ds =
     subst (λ (n : ℕ). AllByRecursion (IsMade (suc n)) ds) (sym long)
     (printed_all (IsMade (suc (length a))) w.sides (all_made k table (context_of a) (suc (length a)) (several ps) (bounding k table (context_of a) (suc (length a)) ps) ps w.sides w.are_sides)) in
+    let first = reads_in_order i table t e k ds made sides in
+    let r = opened_asks k table (Readable i table e) (Holding i table e) (Found i table e) _ s asks a ps o w all first says in
     let lower : Sides → List Bound = λ d. (d.bounds).lower in
     let upper : Sides → List Bound = λ d. (d.bounds).upper in
     let lows : List ℕ = fold (λ ns d. fold (λ ms b. named table ms b.form) ns (lower d)) [] ds in

@@ -17,6 +17,7 @@ use Rattle.scan_forms.specs.declared.claim.Claim.{Claim}
 use Rattle.scan_forms.specs.Bounds.{bounds_of}
 use Rattle.loop_scan.specs.declared.sides.Sides.{Sides}
 use Rattle.scanning.specs.Kernels.{product, index, col, t1, t2, m, cell}
+use Rattle.scanning.specs.Named.{named}
 use Rattle.scanning.specs.Parts.{Opened, sizes_of}
 use Rattle.scanning.specs.Sizes.{Sizes}
 use Rattle.scanning.specs.Written.{form_printed, lower_printed, test_printed}
@@ -26,6 +27,7 @@ use Rattle.printed_laws.specs.Printed.{Sees}
 use Rattle.printed_laws.specs.Laws.{worth}
 use Rattle.printed_laws.specs.Loops.{low_of, high_of, own_low, own_high}
 use Rattle.printed_laws.specs.Opened.{AreSides}
+use Rattle.printed_laws.specs.Assigned.{IsInnerRow}
 use Rattle.printed_laws.specs.Between.{HoldsWith}
 
 -- t1 is 1, and each parameter 2; index and col have 3 cells, those of index hold 1 and those of col 2
@@ -103,3 +105,7 @@ sides = record { used = rows; order = 0 ∷ 1 ∷ []; bounds = bounds_of 2 rows 
 
 abbrev pub WorkedSides : Type 0
 WorkedSides = AreSides input nested_reads levels sides × (own_low input nested_reads levels sides ≡ pos 1) × (own_high input nested_reads levels sides ≡ pos 3)
+
+-- inside the loop of t1 the row 2*col[index[t1]] - 3 >= 0 names only levels around; its reads are index[t1], and behind it col[index[t1]]
+abbrev pub WorkedInnerRow : Type 0
+WorkedInnerRow = IsInnerRow input nested_reads levels (record { equal = false; form = twice_column }) × (named nested_reads [] twice_column ≡ 0 ∷ 1 ∷ [])

@@ -5,4 +5,5 @@ pub mod Examples
 pub mod Seeing
 pub mod Between
 pub mod Opened
+pub mod Assigned
 pub mod Orders

@@ -15,9 +15,8 @@ use Rattle.scan_forms.specs.Forms.{level_of}
 use Rattle.loop_scan.specs.declared.sides.Sides.{Sides}
 use Rattle.loop_scan.specs.Choices.{printed_sides}
 use Rattle.scanning.specs.Parts.{Part, Around, Opened, context_of, sizes_of}
-use Rattle.scanning.specs.Heads.{bound_reads}
 use Rattle.scanning_laws.specs.Valued.{only_where, founds_from, befores_from, Says}
-use Rattle.scanning_laws.specs.Asking.{AllHold, InnerFirst, IsAsking}
+use Rattle.scanning_laws.specs.Asking.{AllHold, IsAsking}
 use Rattle.scanning_laws.specs.Naming.{IsTable, IsInnerOf}
 use Rattle.scanning_laws.specs.Opening.{IsOpened}
 use Rattle.printed_laws.specs.Printed.{AreDistinct, Sees, CanBeRead}
@@ -72,5 +71,4 @@ abbrev pub OpenedLoopsDo : Type 0
 OpenedLoopsDo =
     (k : Kernel) (table : List Read) (a : Around) (ps : List Part) (o : Opened) (w : IsOpened k table a ps o) (s : Sight) (i : Input) (e : Levels) → Sees k i (sizes_of a) e s → IsTable table
     → length e ≡ length a → (ps ≡ [] → ⊥) → AllByRecursion (AreSides i table e) (printed_sides w.sides) → AllHold (Readable i table e) (Holding i table e) (context_of a)
-    → IsAsking k table (Readable i table e) (Holding i table e) (Found i table e) (RestsOn table e) → InnerFirst (RestsOn table e) (bound_reads k table (printed_sides w.sides)) []
-    → LoopDoes k table a ps o w s i e
+    → IsAsking k table (Readable i table e) (Holding i table e) (Found i table e) (RestsOn table e) → LoopDoes k table a ps o w s i e

@@ -1,8 +1,9 @@
 //! What is printed for forms, bounds, tests and assignments: each function here carries one law, or a worked case, as its contract.
 #![tactic(auto)]
 
+ghost use Rattle.printed_laws.specs.Assigned.{AssignmentsTest};
 ghost use Rattle.printed_laws.specs.Between.{RowsHoldBetweenBounds};
-ghost use Rattle.printed_laws.specs.Examples.{WorkedBound, WorkedForm, WorkedLevels, WorkedRows, WorkedSides, WorkedTest};
+ghost use Rattle.printed_laws.specs.Examples.{WorkedBound, WorkedForm, WorkedInnerRow, WorkedLevels, WorkedRows, WorkedSides, WorkedTest};
 ghost use Rattle.printed_laws.specs.Laws.{PrintedAssignmentsPerform, PrintedBoundsHaveValues, PrintedFormsHaveValues, PrintedTestsSay};
 ghost use Rattle.printed_laws.specs.Loops.{PrintedHeadsHaveValues};
 ghost use Rattle.printed_laws.specs.Opened.{OpenedLoopsDo};
@@ -49,6 +50,11 @@ pub fn opened_loops_do()
     ensures { OpenedLoopsDo }
 {}
 
+/// An assignment's tests have an answer; where it is true, the rows that no loop says hold.
+pub fn assignments_test()
+    ensures { AssignmentsTest }
+{}
+
 /// The orders in which reads are printed name none twice.
 pub fn orders_are_distinct()
     ensures { OrdersAreDistinct }
@@ -82,6 +88,11 @@ pub fn worked_levels()
 /// A statement that is bounded by these rows.
 pub fn worked_sides()
     ensures { WorkedSides }
+{}
+
+/// A row that holds a read in the argument of another.
+pub fn worked_inner_row()
+    ensures { WorkedInnerRow }
 {}
 
 /// A number that is there already.

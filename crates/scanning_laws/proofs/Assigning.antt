@@ -19,7 +19,7 @@ use Rattle.scanning.specs.Written.{tests_printed, cell_printed, body_printed}
 use Rattle.scanning.specs.Parts.{Part, Around, Assigned, context_of, sizes_of, at_of}
 use Rattle.scanning.specs.Assignments.{with_rows, is_open, assignment}
 use Rattle.scanning_laws.specs.Asking.{InOrder, AllHold, IsAsking}
-use Rattle.scanning_laws.specs.Assigning.{IsAssigned, AreNamed, AssignedAsks}
+use Rattle.scanning_laws.specs.Assigning.{IsAssigned, IsNamed, AssignedAsks}
 use Rattle.scanning_laws.proofs.Derived.{came}
 use Rattle.scanning_laws.proofs.Asking.{then, all-both, asks}
 use Rattle.scanning_laws.proofs.Tested.{ordered}
@@ -39,27 +39,30 @@ assigned_is k table a p x h =
     let z = came value (λ v. Ok (whole u.value w.value v)) x w.then in
     subst (IsAssigned k table a p) (ap (assigned_in x) z.then) (record { tests = u.is; target = w.is; how = refl; value = z.is })
 
-module _ (k : Kernel) (table : List Read) (Readable Holding : Claim → Type 0) (Found : ℕ → Type 0) (IsInner : ℕ → ℕ → Type 0) (s : Sight) (f : IsAsking k table Readable Holding Found IsInner) (n : AreNamed table Readable Found IsInner) where
+module _ (k : Kernel) (table : List Read) (Readable Holding : Claim → Type 0) (Found : ℕ → Type 0) (IsInner : ℕ → ℕ → Type 0) (s : Sight) (f : IsAsking k table Readable Holding Found IsInner) where
   abbrev with_row : List Claim → KernelRow × Claim → List Claim
   with_row context r = asked_form k table context (r.1).form ++ r.1 ∷ []
 
   abbrev RowsHold : List (KernelRow × Claim) → Type 0
   RowsHold rs = (r : KernelRow × Claim) → IsIn r rs → Readable r.1 × Holding r.1
 
+  abbrev RowsAreNamed : List (KernelRow × Claim) → Type 0
+  RowsAreNamed rs = (r : KernelRow × Claim) → IsIn r rs → IsNamed table Readable Found IsInner r.1
+
   -- what rows add
-  rows_asked : (context : List Claim) (rs : List (KernelRow × Claim)) → (more : List Claim) × (fold with_row context rs ≡ context ++ more) × (AllHold Readable Holding context → InOrder Readable Holding more (RowsHold rs))
-  rows_asked context [] = ([], sym (append-nil context), λ all r i. absurd i)
-  rows_asked context (r ∷ rs) =
+  rows_asked : (context : List Claim) (rs : List (KernelRow × Claim)) → RowsAreNamed rs → (more : List Claim) × (fold with_row context rs ≡ context ++ more) × (AllHold Readable Holding context → InOrder Readable Holding more (RowsHold rs))
+  rows_asked context [] n = ([], sym (append-nil context), λ all r i. absurd i)
+  rows_asked context (r ∷ rs) n =
       let is : List ℕ = named table [] (r.1).form in
       let a = asks Readable Holding k table Found IsInner f context is [] in
-      let rest = rows_asked (with_row context r) rs in
+      let rest = rows_asked (with_row context r) rs (λ y m. n y (inr m)) in
       let own : with_row context r ≡ context ++ (a.0 ++ r.1 ∷ []) = ap (λ (l : List Claim). l ++ r.1 ∷ []) a.1 ∙ append_assoc context a.0 (r.1 ∷ []) in (
         (a.0 ++ r.1 ∷ []) ++ rest.0,
         rest.1 ∙ ap (λ (l : List Claim). l ++ rest.0) own ∙ append_assoc context (a.0 ++ r.1 ∷ []) rest.0,
         λ all. (
             let first : InOrder Readable Holding (a.0 ++ r.1 ∷ []) (Readable r.1 × Holding r.1) =
-            then Readable Holding a.0 (r.1 ∷ []) ((i : ℕ) → IsIn i is → Found i) (Readable r.1 × Holding r.1) (a.2 all (n.inner_first (r.1).form) (λ i m. absurd m))
-            (λ g found. (let ready = n.readable r.1 found in (ready, λ t. (ready, t)))) in
+            then Readable Holding a.0 (r.1 ∷ []) ((i : ℕ) → IsIn i is → Found i) (Readable r.1 × Holding r.1) (a.2 all (n r (inl refl)).inner_first (λ i m. absurd m))
+            (λ g found. (let ready = (n r (inl refl)).readable found in (ready, λ t. (ready, t)))) in
             then Readable Holding (a.0 ++ r.1 ∷ []) rest.0 (Readable r.1 × Holding r.1) (RowsHold (r ∷ rs)) first
             (λ g own_holds. (
             let after_row : AllHold Readable Holding (with_row context r) = subst (AllHold Readable Holding) (sym own) (all-both Readable Holding context (a.0 ++ r.1 ∷ []) all g) in
@@ -69,10 +72,10 @@ module _ (k : Kernel) (table : List Read) (Readable Holding : Claim → Type 0) 
             subst (λ (l : List Claim). InOrder Readable Holding l (RowsHold (r ∷ rs))) (append-nil rest.0) others))),
       )
 
-  pub assigned_asks : AssignedAsks k table Readable Holding s
-  assigned_asks a p x w all says =
+  pub assigned_asks : AssignedAsks k table Readable Holding Found IsInner s
+  assigned_asks a p x w all n says =
       let rs = filter (is_open k table a p) p.rows in
-      let r = rows_asked (context_of a) rs in
+      let r = rows_asked (context_of a) rs n in
       let own : gained (context_of a) (with_rows k table a p) ≡ r.0 = ap (gained (context_of a)) r.1 ∙ gained_is (context_of a) r.0 in
       let order = subst (λ (l : List Claim). InOrder Readable Holding l (RowsHold rs)) (sym own) (r.2 all) in
       let b = ordered k table p.order (sizes_of a) p.number Readable Holding s says (gained (context_of a) (with_rows k table a p)) x.tests (RowsHold rs) w.tests order in

@@ -96,4 +96,5 @@ inner_first table f t = let n = names table t (length table) in ((n.grows [] f).
 -- naming further reads keeps those that are named, has each that the form holds, and keeps inner ones first
 pub names_more : (table : List Read) → IsTable table → (ns : List ℕ) (f : Affine) → ((i : ℕ) → IsIn i ns → IsIn i (named_below table (length table) ns f))
     × ((j : ℕ) → j < length table → Holds j f → IsIn j (named_below table (length table) ns f))
-names_more table t ns f = let n = names table t (length table) in ((n.grows ns f).within, λ j l k. n.has ns f j l k)
+    × (InnerFirst (IsInnerOf table) ns [] → InnerFirst (IsInnerOf table) (named_below table (length table) ns f) [])
+names_more table t ns f = let n = names table t (length table) in ((n.grows ns f).within, λ j l k. n.has ns f j l k, (n.grows ns f).closed)

@@ -5,7 +5,6 @@ use Rattle.c_meaning.specs.Value.{Sight, all_hold}
 use Rattle.nest_tree.specs.declared.kernel.Kernel.{Kernel}
 use Rattle.nest_tree.specs.declared.kernel.KernelRow.{KernelRow}
 use Rattle.nest_tree.specs.Lists.{IsIn}
-use Rattle.scan_forms.specs.declared.affine.Affine.{Affine}
 use Rattle.scan_forms.specs.declared.claim.Claim.{Claim}
 use Rattle.scan_forms.specs.declared.reads.Read.{Read}
 use Rattle.scanning.specs.Named.{named}
@@ -22,15 +21,16 @@ pub record IsAssigned (k : Kernel) (table : List Read) (a : Around) (p : Part) (
   pub how : x.how ≡ (p.nest).how
   pub value : body_printed k table p.order (sizes_of a) p.number (at_of k table p.nest) (p.nest).value ≡ Ok x.value
 
--- at a point: the reads that a form names come inner ones first, and where they are found, it can be read
-pub record AreNamed (table : List Read) (Readable : Claim → Type 0) (Found : ℕ → Type 0) (IsInner : ℕ → ℕ → Type 0) : Type 0 where
-  pub inner_first : (f : Affine) → InnerFirst IsInner (named table [] f) []
-  pub readable : (x : Claim) → ((i : ℕ) → IsIn i (named table [] x.form) → Found i) → Readable x
+-- at a point: the reads that a claim names come inner ones first, and where they are found, it can be read
+pub record IsNamed (table : List Read) (Readable : Claim → Type 0) (Found : ℕ → Type 0) (IsInner : ℕ → ℕ → Type 0) (x : Claim) : Type 0 where
+  pub inner_first : InnerFirst IsInner (named table [] x.form) []
+  pub readable : ((i : ℕ) → IsIn i (named table [] x.form) → Found i) → Readable x
 
 -- where the context's claims hold, the tests around an assignment have an answer; it is true exactly where all that they are holds, and then each open row holds
-abbrev pub AssignedAsks : (k : Kernel) (table : List Read) (Readable Holding : Claim → Type 0) → Sight → Type 0
-AssignedAsks k table Readable Holding s =
+abbrev pub AssignedAsks : (k : Kernel) (table : List Read) (Readable Holding : Claim → Type 0) (Found : ℕ → Type 0) (IsInner : ℕ → ℕ → Type 0) → Sight → Type 0
+AssignedAsks k table Readable Holding Found IsInner s =
     (a : Around) (p : Part) (x : Assigned) → IsAssigned k table a p x → AllHold Readable Holding (context_of a)
+    → ((r : KernelRow × Claim) → IsIn r (filter (is_open k table a p) p.rows) → IsNamed table Readable Found IsInner r.1)
     → TestsSay k table p.order (sizes_of a) p.number Readable Holding s
     → (b : Bool) × (all_hold x.tests s ≡ Ok b)
     × (b ≡ true → (r : KernelRow × Claim) → IsIn r (filter (is_open k table a p) p.rows) → Readable r.1 × Holding r.1)

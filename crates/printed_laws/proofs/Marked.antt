@@ -1,0 +1,141 @@
+-- The reads that a form names, where those that it holds name only levels around: so do the reads in their arguments.
+use Rattle.std.proofs.Common.{◌≡◌, ◌⊎◌, inl, inr, ℕ, zero, suc, ◌+◌, ◌<◌, List, [], ◌∷◌, ◌++◌, length, refl, sym, ◌∙◌, ap, subst, arith, ℤ, pos, negsuc, nat_eq, Bool, true, false, cond, length-append}
+use Rattle.std.specs.Prelude.{slice_get}
+use Rattle.std.specs.List.{list_all, list_any, fold, AllByRecursion}
+use Rattle.std.proofs.lemmas.Int.{ints}
+use Rattle.std.proofs.lemmas.Bool.{and_parts}
+use Rattle.nest_tree.specs.Lists.{IsIn}
+use Rattle.nest_tree.specs.Loops.{Levels}
+use Rattle.scan_forms.specs.declared.affine.Affine.{Affine}
+use Rattle.scan_forms.specs.declared.bounds.Bound.{Bound}
+use Rattle.scan_forms.specs.declared.reads.Read.{Read}
+use Rattle.scan_forms.specs.Numbers.{number_at, are_zero}
+use Rattle.loop_scan.specs.declared.sides.Sides.{Sides}
+use Rattle.scanning.specs.Named.{named_below, named, arguments, with_new}
+use Rattle.scanning.specs.Reads.{if_held}
+use Rattle.scanning_laws.specs.Asking.{InnerFirst}
+use Rattle.scanning_laws.specs.Naming.{IsInnerOf, IsTable}
+use Rattle.scanning_laws.specs.Valued.{only_where, form_before, befores_from}
+use Rattle.scanning_laws.proofs.Naming.{names_more}
+use Rattle.printed_laws.specs.Opened.{RestsOn}
+use Rattle.printed_laws.proofs.Forms.{marked, where_marked}
+
+-- ---- marks along the table
+front : (bs cs : List Bool) (j : ℕ) → j < length bs → marked j (bs ++ cs) ≡ marked j bs
+front [] cs j l = absurd (omega (arith, l))
+front (b ∷ bs) cs zero l = refl
+front (b ∷ bs) cs (suc j) l = front bs cs j (omega (arith, l))
+
+last : (bs : List Bool) (b : Bool) → marked (length bs) (bs ++ b ∷ []) ≡ b
+last [] b = refl
+last (c ∷ bs) b = last bs b
+
+marked_inside : (bs : List Bool) (j : ℕ) → marked j bs ≡ true → j < length bs
+marked_inside [] j h = absurd (cc)
+marked_inside (b ∷ bs) zero h = omega arith
+marked_inside (b ∷ bs) (suc j) h = let l = marked_inside bs j h in omega (arith, l)
+
+kept : (q : ℕ) (table : List Read) (bs : List Bool) (j : ℕ) → j < length bs → marked j (befores_from q bs table) ≡ marked j bs
+kept q [] bs j l = refl
+kept q (r ∷ more) bs j l =
+    let b : Bool = list_all (form_before q bs) r.at in
+    kept q more (bs ++ b ∷ []) j (omega (arith, length-append bs (b ∷ []), l)) ∙ front bs (b ∷ []) j l
+
+all_at : (P : Affine → Bool) (fs : List Affine) (f : Affine) → list_all P fs ≡ true → IsIn f fs → P f ≡ true
+all_at P [] f h m = absurd m
+all_at P (g ∷ fs) f h (inl e) = subst (λ (x : Affine). P x ≡ true) (sym e) (and_parts (P g) (list_all P fs) h).0
+all_at P (g ∷ fs) f h (inr m) = all_at P fs f (and_parts (P g) (list_all P fs) h).1 m
+
+-- the arguments of a marked read hold only marked reads
+arguments_marked : (q : ℕ) (table : List Read) (bs : List Bool) (b : ℕ) → marked (length bs + b) (befores_from q bs table) ≡ true
+    → (g : Affine) → IsIn g (arguments (slice_get table b)) → (j : ℕ) → (number_at j g.reads ≡ pos 0 → ⊥) → marked j (befores_from q bs table) ≡ true
+arguments_marked q [] bs b h g m j n = absurd m
+arguments_marked q (r ∷ more) bs zero h g m j n =
+    let x : Bool = list_all (form_before q bs) r.at in
+    let longer : length (bs ++ x ∷ []) ≡ length bs + 1 = length-append bs (x ∷ []) in
+    let place : length bs + 0 ≡ length bs = omega arith in
+    let own : marked (length bs) (befores_from q (bs ++ x ∷ []) more) ≡ x = kept q more (bs ++ x ∷ []) (length bs) (omega (arith, longer)) ∙ last bs x in
+    let is : x ≡ true = sym own ∙ subst (λ (i : ℕ). marked i (befores_from q (bs ++ x ∷ []) more) ≡ true) place h in
+    let here : marked j bs ≡ true = where_marked bs g.reads j (and_parts _ (only_where bs g.reads) (all_at (form_before q bs) r.at g is m)).1 n in
+    let inside = marked_inside bs j here in
+    kept q more (bs ++ x ∷ []) j (omega (arith, longer, inside)) ∙ front bs (x ∷ []) j inside ∙ here
+arguments_marked q (r ∷ more) bs (suc b) h g m j n =
+    let x : Bool = list_all (form_before q bs) r.at in
+    let place : length bs + suc b ≡ length (bs ++ x ∷ []) + b = omega (arith, length-append bs (x ∷ [])) in
+    arguments_marked q more (bs ++ x ∷ []) b (subst (λ (i : ℕ). marked i (befores_from q (bs ++ x ∷ []) more) ≡ true) place h) g m j n
+
+end_in : (ns : List ℕ) (i j : ℕ) → IsIn j (ns ++ i ∷ []) → IsIn j ns ⊎ (j ≡ i)
+end_in [] i j (inl e) = inr e
+end_in [] i j (inr m) = absurd m
+end_in (n ∷ ns) i j (inl e) = inl (inl e)
+end_in (n ∷ ns) i j (inr m) = elim (end_in ns i j m) [ inl k ↦ inl (inr k) | inr e ↦ inr e ]
+
+-- ---- what a form names
+module _ (q : ℕ) (table : List Read) where
+  abbrev IsMarked : ℕ → Type 0
+  IsMarked j = marked j (befores_from q [] table) ≡ true
+
+  abbrev pub AreMarked : List ℕ → Type 0
+  AreMarked ns = (i : ℕ) → IsIn i ns → IsMarked i
+
+  abbrev pub HoldsMarked : Affine → Type 0
+  HoldsMarked f = (j : ℕ) → (number_at j f.reads ≡ pos 0 → ⊥) → IsMarked j
+
+  abbrev NamesMarked : ℕ → Type 0
+  NamesMarked b = (ns : List ℕ) (f : Affine) → AreMarked ns → HoldsMarked f → AreMarked (named_below table b ns f)
+
+  new_marked : (ns : List ℕ) (i : ℕ) → AreMarked ns → IsMarked i → AreMarked (with_new ns i)
+  new_marked ns i all one = by_there (list_any (nat_eq i) ns)
+    where
+      by_there : (b : Bool) → AreMarked (cond b ns (ns ++ i ∷ []))
+      by_there true = all
+      by_there false = λ j m. elim (end_in ns i j m) [ inl k ↦ all j k | inr e ↦ subst IsMarked (sym e) one ]
+
+  each_marked : (b : ℕ) → NamesMarked b → (fs : List Affine) (ns : List ℕ) → AreMarked ns → ((g : Affine) → IsIn g fs → HoldsMarked g) → AreMarked (fold (named_below table b) ns fs)
+  each_marked b one [] ns all h = all
+  each_marked b one (f ∷ fs) ns all h = each_marked b one fs (named_below table b ns f) (one ns f all (h f (inl refl))) (λ g m. h g (inr m))
+
+  read_marked : (b : ℕ) → NamesMarked b → (ns : List ℕ) → AreMarked ns → IsMarked b → AreMarked (with_new (fold (named_below table b) ns (arguments (slice_get table b))) b)
+  read_marked b one ns all own =
+      let place : b ≡ 0 + b = omega arith in
+      let here : marked (0 + b) (befores_from q [] table) ≡ true = subst IsMarked place own in
+      new_marked (fold (named_below table b) ns (arguments (slice_get table b))) b (each_marked b one (arguments (slice_get table b)) ns all (λ g m j n. arguments_marked q table [] b here g m j n)) own
+
+  by_number : (b : ℕ) → NamesMarked b → (ns : List ℕ) (z : ℤ) → AreMarked ns → ((z ≡ pos 0 → ⊥) → IsMarked b)
+      → AreMarked (if_held z (λ z ls. with_new (fold (named_below table b) ls (arguments (slice_get table b))) b) ns)
+  by_number b one ns (pos zero) all h = all
+  by_number b one ns (pos (suc n)) all h = read_marked b one ns all (h (λ e. omega (arith, ints, e)))
+  by_number b one ns (negsuc n) all h = read_marked b one ns all (h (λ e. omega (arith, ints, e)))
+
+  below_marked : (b : ℕ) → NamesMarked b
+  below_marked zero ns f all h = all
+  below_marked (suc b) ns f all h = by_number b (below_marked b) (named_below table b ns f) (number_at b f.reads) (below_marked b ns f all h) (h b)
+
+  pub named_marked : (ns : List ℕ) (f : Affine) → AreMarked ns → HoldsMarked f → AreMarked (named table ns f)
+  named_marked = below_marked (length table)
+
+-- what bounds name, one behind the other
+module _ (q : ℕ) (table : List Read) (t : IsTable table) where
+  abbrev InOrder : List ℕ → Type 0
+  InOrder ns = InnerFirst (IsInnerOf table) ns [] × AreMarked q table ns
+
+  abbrev pub BoundsHoldMarked : List Bound → Type 0
+  BoundsHoldMarked bs = AllByRecursion (λ b. HoldsMarked q table b.form) bs
+
+  bounds_in_order : (bs : List Bound) (ns : List ℕ) → InOrder ns → BoundsHoldMarked bs → InOrder (fold (λ ms b. named table ms b.form) ns bs)
+  bounds_in_order [] ns o h = o
+  bounds_in_order (b ∷ bs) ns o h = bounds_in_order bs (named table ns b.form) ((names_more table t ns b.form).2 o.0, named_marked q table ns b.form o.1 h.0) h.1
+
+  pub sides_in_order : (g : Sides → List Bound) (ds : List Sides) (ns : List ℕ) → InOrder ns → AllByRecursion (λ d. BoundsHoldMarked (g d)) ds
+      → InOrder (fold (λ ns d. fold (λ ms b. named table ms b.form) ns (g d)) ns ds)
+  sides_in_order g [] ns o h = o
+  sides_in_order g (d ∷ ds) ns o h = sides_in_order g ds (fold (λ ms b. named table ms b.form) ns (g d)) (bounds_in_order (g d) ns o h.0) h.1
+
+-- reads that name no further level rest only on those in their arguments
+module _ (table : List Read) (e : Levels) where
+  pub rest_in_order : (is found : List ℕ) → InnerFirst (IsInnerOf table) is found → AreMarked (length e) table is → InnerFirst (RestsOn table e) is found
+  rest_in_order [] found h all = tt
+  rest_in_order (i ∷ is) found h all = (
+    λ j r. elim r [ inl n ↦ h.0 j n | inr p ↦ absurd (let no : true ≡ false = sym (all i (inl refl)) ∙ p.1 in cc) ],
+    rest_in_order is (i ∷ found) h.1 (λ j m. all j (inr m)),
+  )
