@@ -1,5 +1,5 @@
 -- Tests one after another: what is asked of reads, and then of rows, where what they need is found.
-use Rattle.std.specs.Prelude.{◌≡◌, ℕ, List, [], ◌∷◌, ◌++◌, true}
+use Rattle.std.specs.Prelude.{◌≡◌, ℕ, List, [], ◌∷◌, ◌++◌, true, false}
 use Rattle.nest_tree.specs.declared.kernel.Kernel.{Kernel}
 use Rattle.nest_tree.specs.Lists.{IsIn}
 use Rattle.scan_forms.specs.declared.claim.Claim.{Claim}
@@ -24,8 +24,8 @@ InnerFirst IsInner (i ∷ reads) found = ((j : ℕ) → IsInner j i → IsIn j f
 
 -- at a point: which claims can be read and which hold, which reads find their cells, and which reads stand in another's arguments
 pub record IsAsking (k : Kernel) (table : List Read) (Readable Holding : Claim → Type 0) (Found : ℕ → Type 0) (IsInner : ℕ → ℕ → Type 0) : Type 0 where
-  -- what is implied holds
-  pub implied : (context : List Claim) (x : Claim) → context_implies k table context x.form ≡ true → AllHold Readable Holding context → Readable x → Holding x
+  -- an inequality that is implied holds
+  pub implied : (context : List Claim) (x : Claim) → x.equal ≡ false → context_implies k table context x.form ≡ true → AllHold Readable Holding context → Readable x → Holding x
   -- the rows of a read's ranges name only reads in its arguments
   pub opens : (i : ℕ) → ((j : ℕ) → IsInner j i → Found j) → (x : Claim) → IsIn x (read_claims k table (slice_get table i)) → Readable x
   -- a read whose arguments are in their ranges finds its cell
