@@ -1,3 +1,4 @@
+pub mod Moves
 pub mod Unchanged
 pub mod Recounting
 pub mod Bounded

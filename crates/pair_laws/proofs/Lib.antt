@@ -2,7 +2,7 @@ mod Differences
 mod Pairs
 mod Cells
 mod Candidates
-mod Levels
-mod Changes
+pub mod Levels
+pub mod Changes
 mod Worked
-mod Shifted
+pub mod Shifted

@@ -31,7 +31,7 @@ use Rattle.point_laws.specs.Values.{AreSmall}
 use Rattle.depend_test.specs.First.{none, excluded}
 use Rattle.depend_test.specs.Orders as orders
 use Rattle.depend_test.specs.Pairs.{pair_system}
-use Rattle.depend_test.specs.Sides.{IsSideOf}
+use Rattle.depend_test.specs.Sides.{IsSideOf, IsMovedBy}
 use Rattle.depend_test.specs.Systems.{SameCell, subscript_rows, cell_system}
 use Rattle.depend_test.specs.declared.pair.Pair.{Pair}
 use Rattle.pair_laws.specs.Pairs.{IsSideAt}
@@ -63,7 +63,7 @@ cells-are : cells shifted_ones ≡ cell ∷ []
 unfolding cells
 cells-are = ap (λ (l : List Access). cell ∷ l) (reads_at (Const 1) _ (outs-Const 1))
 
-is_side : IsSideOf head [] shifted_ones (by_five.old) side
+pub is_side : IsSideOf head [] shifted_ones (by_five.old) side
 unfolding choosing.chosen_of choosing.meet_term choosing.with_counts parts.extended_terms parts.value_rows sums.number_at spans.unit_form
 is_side = record {
   part = record {
@@ -204,13 +204,25 @@ sides_at (v ∷ w ∷ ws) h = absurd h.instance
 makes : pieces_made 1 ones (by_five ∷ []) ≡ Ok (shifted_ones ∷ [])
 makes = rw (worked.3) refl
 
+-- what the code has of the loop and its piece
+pub moved_by : IsMovedBy head [] true ones (by_five ∷ []) moved
+moved_by = record {
+  own_applies = refl;
+  how = refl;
+  accesses = sym old-cells-are;
+  positions = refl;
+  nests = shifted_ones ∷ [];
+  makes = makes;
+  own_sides = more shifted_ones [] by_five [] side [] is_side none_left;
+}
+
 tested : IsTestedMove kernel input applies (moved ∷ []) shift
 tested = record {
   number = 0;
   moved = moved;
   at = refl;
   pieces = by_five ∷ [];
-  by = record { own_applies = refl; how = refl; accesses = sym old-cells-are; positions = refl; nests = shifted_ones ∷ []; makes = makes; own_sides = more shifted_ones [] by_five [] side [] is_side none_left };
+  by = moved_by;
   side = side;
   among = inl refl;
   rewritten = worked.4;

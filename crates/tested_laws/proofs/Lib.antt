@@ -1,0 +1,6 @@
+mod Widths
+mod Finding
+mod Ordered
+mod Tested
+mod Small
+mod Shifted
