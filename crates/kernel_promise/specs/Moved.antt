@@ -1,28 +1,14 @@
 -- What pieces make of a kernel: each piece of each statement with the statement that it makes, at the positions that this
 -- statement gets when the children of each loop are counted anew.
-use Rattle.std.specs.Prelude.{ℕ, Bool, cond, List, [], ◌∷◌, map, length, Result, Ok}
+use Rattle.std.specs.Prelude.{cond, List, [], ◌∷◌, map, length, Result, Ok}
 use Rattle.int_rows.specs.declared.row.Excess.{Excess}
 use Rattle.nest_tree.specs.declared.kernel.Kernel.{Kernel}
 use Rattle.nest_tree.specs.declared.kernel.Nest.{Nest}
 use Rattle.nest_tree.specs.declared.moves.Moves.{Moves}
-use Rattle.nest_tree.specs.declared.moves.Piece.{Piece}
 use Rattle.nest_tree.specs.Moving.{Move}
-use Rattle.nest_core.specs.Making.{after, each_made, both_lists}
+use Rattle.nest_core.specs.Making.{after}
 use Rattle.nest_core.specs.Order.{is_earlier, numbered}
-use Rattle.nest_core.specs.Pieces.{nest_of_piece, is_one}
-
--- a statement, one of its pieces, and the statement that the piece makes
-abbrev pub move_of : ℕ → Bool → Nest → Piece → Result Move Excess
-move_of params alone n p = after (nest_of_piece params alone n p) (λ new. Ok (record { old = n; piece = p; new = new }))
-
-abbrev pub moves_of_one : ℕ → Nest → List Piece → Result (List Move) Excess
-moves_of_one params n ps = each_made (move_of params (is_one ps) n) ps
-
--- those of all statements, statement by statement
-abbrev pub moves_of_all : ℕ → List Nest → List (List Piece) → Result (List Move) Excess
-moves_of_all params [] _ = Ok []
-moves_of_all params (n ∷ ns) [] = Ok []
-moves_of_all params (n ∷ ns) (ps ∷ pss) = both_lists (moves_of_one params n ps) (moves_of_all params ns pss)
+use Rattle.move_laws.specs.Moves.{moves_of_all}
 
 -- a move before the first whose new statement doesn't stand earlier in the text
 abbrev pub put_in : Move → List Move → List Move

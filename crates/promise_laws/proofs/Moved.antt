@@ -13,7 +13,8 @@ use Rattle.nest_tree.specs.Carriers.{shared}
 use Rattle.nest_core.specs.Order.{is_earlier, placed, placed_each, in_text_order, next_positions, numbered, numbered_after}
 use Rattle.nest_core.specs.Pieces.{nest_of_piece, is_one, nests_made, moved_nests, kernel_made}
 use Rattle.nest_laws.proofs.Lists.{in_append}
-use Rattle.kernel_promise.specs.Moved.{move_of, moves_of_one, moves_of_all, put_in, in_order, new_nests, to_nest, to_nests, counted, moves_made}
+use Rattle.move_laws.specs.Moves.{move_of, moves_of_one, moves_of_all}
+use Rattle.kernel_promise.specs.Moved.{put_in, in_order, new_nests, to_nest, to_nests, counted, moves_made}
 use Rattle.promise_laws.specs.Moved.{with_nests, MakeKernel, MovesMakeKernel}
 use Rattle.promise_laws.proofs.Prescribed.{one_value}
 
