@@ -7,7 +7,7 @@ use Rattle.command_words.specs.Commands.{Command, emit, run, trace, work, locate
 use Rattle.run_jobs.specs.Jobs.{Cause}
 use Rattle.run_jobs.specs.Running.{running, TraceCause}
 use Rattle.run_jobs.specs.Locating.{PlaceCause}
-use Rattle.measured_run.specs.Work.{IsSummary, WorkCause}
+use Rattle.measured_run.specs.Work.{Measured, WorkCause}
 use Rattle.measured_run.specs.declared.making.TheConstants.{RECIPE, SOURCE}
 use Rattle.chill_top.specs.Emitting.{emitting}
 
@@ -19,8 +19,8 @@ IsNoCommand _ = ⊥
 
 -- why `work` gave an answer, and what it wrote
 abbrev pub WorkAnswer : ℕ → (out out' : SinkState) → Outcome → Type 0
-WorkAnswer size out out' Done = (text : List ℕ) × IsSummary size text × Wrote out text out'
-WorkAnswer size out out' WriteFault = (text front : List ℕ) × IsSummary size text × IsProperFront front text × Wrote out front out'
+WorkAnswer size out out' Done = (text : List ℕ) × Measured RECIPE.now SOURCE.now size text × Wrote out text out'
+WorkAnswer size out out' WriteFault = (text front : List ℕ) × Measured RECIPE.now SOURCE.now size text × IsProperFront front text × Wrote out front out'
 WorkAnswer size out out' (Refused refusal) = WorkCause RECIPE.now SOURCE.now refusal
 WorkAnswer size out out' NoMemory = Unit {0}
 WorkAnswer size out out' (ReadFault file) = ⊥

@@ -1,70 +1,85 @@
-// The run, and what the summary tells of the machine behind it.
-ghost use Rattle.std.specs.Prelude.{◌≡◌, ◌≤◌, ◌⊎◌, ◌^◌, Ok, IfOk, IfErr, length};
+// The run, and what the summary tells of the arrays behind it.
+ghost use Rattle.std.specs.Prelude.{◌≡◌, ◌≤◌, ◌*◌, ◌%◌, ◌^◌, IfOk, IfErr, length};
 ghost use Rattle.c_grammar.specs.Program.{IsProgram};
 ghost use Rattle.c_judge.specs.Rules.{KeepsRules};
+ghost use Rattle.c_run.specs.Machines.{state_of_machine};
 ghost use Rattle.c_tokens.specs.Pieces.{tokens_of};
+ghost use Rattle.c_walk.specs.State.{memory_in};
+ghost use Rattle.csr_data.specs.Values.{params_of};
 ghost use Rattle.program_run.specs.Texts.{Gives};
 ghost use Rattle.outcomes.specs.Refusing.{IfRefused};
 ghost use Rattle.text_runs.specs.Running.{RunCause};
-ghost use Rattle.measured_run.specs.Work.{IsSummary, IsUnnamed};
+ghost use Rattle.measured_run.specs.Figures.{cells_of, entries_of, figures, total, weighed};
+ghost use Rattle.measured_run.specs.Work.{Measures, summary};
 
 use crate::summary::{Figures, layout, lines, sum};
-use c_judge::{NameWhy, ProgramFault};
 use c_run::Machine;
 use c_tree::Program;
 use chill_base::{Name, NoMemory, Stop, Text};
 use csr_data::Values;
 use outcomes::Refusal;
-use raw_store::Cells;
+use raw_store::{Cells, Grid};
 use std::alloc::Global;
 
-/// The cells of an array that the summary tells of.
-fn cells<'a>(machine: &'a Machine, name: &[u8]) -> Result<&'a Cells, Refusal>
-    requires { (1 ≤ length name.now) × (length name.now ≤ 63) }
-    ensures { IfErr result IsUnnamed }
+fn name(bytes: &[u8]) -> Name
+    requires { (1 ≤ length bytes.now) × (length bytes.now ≤ 63) }
+    ensures { result ≡ bytes.now }
 {
-    let name = Name::new(name).unwrap();
-    match machine.array(&name) {
-        Some(grid) => Ok(grid.cells()),
-        None => Err(Refusal::Program(ProgramFault::Name {
-            name,
-            why: NameWhy::Unknown,
-        })),
+    Name::new(bytes).unwrap()
+}
+
+/// How many entries the matrix of the data has.
+fn entries(values: &Values) -> u64
+    ensures { result ≡ entries_of (params_of values.now) }
+{
+    values.param(&name(b"nnz")).unwrap_or(0)
+}
+
+/// The cells of an array, as many as its extents say.
+fn cells(grid: &Grid) -> &Cells
+    ensures cells { result.now ≡ grid.now.cells }
+    ensures full { length grid.now.cells ≡ grid.now.first * (grid.now.deep * grid.now.wide) }
+{
+    let _extents = grid.extents();
+    grid.cells()
+}
+
+/// The sum of an array's cells.
+fn sum_of(machine: &Machine, array: &[u8]) -> u64
+    requires { (1 ≤ length array.now) × (length array.now ≤ 63) }
+    ensures { result ≡ total (cells_of (memory_in (state_of_machine machine.now)) array.now) }
+{
+    match machine.array(&name(array)) {
+        Some(grid) => sum(cells(grid)),
+        None => 0,
     }
 }
 
-/// The number of blocks stands in the one cell of `b_num`.
-fn measure(machine: &Machine, size: u32) -> Result<Figures, Refusal>
-    ensures ok { IfOk result (λ f. f.size ≡ size) }
-    ensures refused { IfErr result IsUnnamed }
+/// The sum of an array's cells, each times one more than its place.
+fn layout_of(machine: &Machine, array: &[u8]) -> u64
+    requires { (1 ≤ length array.now) × (length array.now ≤ 63) }
+    ensures { result ≡ weighed 0 (cells_of (memory_in (state_of_machine machine.now)) array.now) % 2 ^ 64 }
 {
-    let entries = cells(machine, b"col")?.len() as u64;
-    let blocks = sum(cells(machine, b"b_num")?);
-    let layout = layout(cells(machine, b"b_lay")?);
-    let sum = sum(cells(machine, b"y")?);
-    Ok(Figures {
+    match machine.array(&name(array)) {
+        Some(grid) => layout(cells(grid)),
+        None => 0,
+    }
+}
+
+/// The figures of the arrays. The number of blocks stands in the one cell of `b_num`.
+fn measure(machine: &Machine, size: u32, entries: u64) -> Figures
+    ensures { result ≡ figures size entries (memory_in (state_of_machine machine.now)) }
+{
+    Figures {
         size: size as u64,
         entries,
-        blocks,
-        layout,
-        sum,
-    })
-}
-
-fn summary(alloc: Global, machine: &Machine, size: u32) -> Result<Text, Stop<Refusal>>
-    ensures ok { IfOk result (IsSummary size) }
-    ensures refused { IfErr result (IfRefused IsUnnamed) }
-{
-    match measure(machine, size) {
-        Ok(figures) => match lines(alloc, &figures) {
-            Ok(text) => Ok(text),
-            Err(NoMemory) => Err(Stop::NoMemory),
-        },
-        Err(refusal) => Err(Stop::Refused(refusal)),
+        blocks: sum_of(machine, b"b_num"),
+        layout: layout_of(machine, b"b_lay"),
+        sum: sum_of(machine, b"y"),
     }
 }
 
-/// Runs the program on the values, and tells of the arrays that it leaves.
+/// Runs the program on the values, and tells of the data and of the arrays that it leaves.
 #[tactic(auto, using(crate::proofs::Laws::can_run))]
 pub(crate) fn run_measured(
     alloc: Global,
@@ -77,9 +92,10 @@ pub(crate) fn run_measured(
     requires grammar { IsProgram (tokens_of _source.now) program.now }
     requires rules { KeepsRules program.now }
     requires gives { Gives program.now _input.now values }
-    ensures ok { IfOk result (IsSummary size) }
-    ensures refused { IfErr result (IfRefused (λ r. RunCause program.now _input.now r ⊎ IsUnnamed r)) }
+    ensures ok { IfOk result (Measures program.now _input.now size) }
+    ensures refused { IfErr result (IfRefused (RunCause program.now _input.now)) }
 {
+    let count = entries(&values);
     let mut machine = match Machine::prepare(alloc, program, values) {
         Ok(machine) => machine,
         Err(NoMemory) => return Err(Stop::NoMemory),
@@ -90,7 +106,10 @@ pub(crate) fn run_measured(
         Err(Stop::NoMemory) => return Err(Stop::NoMemory),
     }
     match machine.execute() {
-        Ok(()) => summary(alloc, &machine, size),
+        Ok(()) => match lines(alloc, &measure(&machine, size, count)) {
+            Ok(text) => Ok(text),
+            Err(NoMemory) => Err(Stop::NoMemory),
+        },
         Err(fault) => Err(Stop::Refused(Refusal::Run(fault))),
     }
 }

@@ -6,7 +6,7 @@ ghost use Rattle.c_loops.specs.Programs.{program_of};
 ghost use Rattle.c_tokens.specs.Pieces.{tokens_of};
 ghost use Rattle.outcomes.specs.Refusing.{IfRefused, ProgramCause};
 ghost use Rattle.text_runs.specs.Running.{RunDenies};
-ghost use Rattle.measured_run.specs.Work.{IsSummary, IsTooLong, IsUnnamed, WorkCause};
+ghost use Rattle.measured_run.specs.Work.{Measured, RunsTo, WorkCause};
 
 use crate::machine::run_measured;
 use c_tree::Program;
@@ -34,11 +34,11 @@ fn made(alloc: Global, seed: u32, size: u32) -> Result<Text, NoMemory>
     print_values(alloc, &values)
 }
 
-/// Runs the program of a text on a data text.
+/// Runs the program of a text on a data text, and tells of the data and of the arrays that it leaves.
 fn run_text(alloc: Global, source: &[u8], input: &[u8], size: u32) -> Result<Text, Stop<Refusal>>
     requires { length input.now ≤ 67108864 }
-    ensures ok { IfOk result (IsSummary size) }
-    ensures refused { IfErr result (IfRefused (λ r. ProgramCause (program_of source.now) r ⊎ (RunDenies source.now input.now r ⊎ IsUnnamed r))) }
+    ensures ok { IfOk result (RunsTo source.now input.now size) }
+    ensures refused { IfErr result (IfRefused (λ r. ProgramCause (program_of source.now) r ⊎ RunDenies source.now input.now r)) }
 {
     match read(alloc, source) {
         Ok(program) => run_tree(alloc, source, &program, input, size),
@@ -57,8 +57,8 @@ fn run_tree(
     requires grammar { IsProgram (tokens_of source.now) program.now }
     requires rules { KeepsRules program.now }
     requires few { length input.now ≤ 67108864 }
-    ensures ok { IfOk result (IsSummary size) }
-    ensures refused { IfErr result (IfRefused (λ r. RunDenies source.now input.now r ⊎ IsUnnamed r)) }
+    ensures ok { IfOk result (RunsTo source.now input.now size) }
+    ensures refused { IfErr result (IfRefused (RunDenies source.now input.now)) }
 {
     match read_values(alloc, source, program, input) {
         Ok(values) => run_measured(alloc, source, program, input, values, size),
@@ -66,12 +66,12 @@ fn run_tree(
     }
 }
 
-/// Makes data of so many rows, writes the program of the block recipe, runs it on the data, and gives the summary. A data
-/// text that is longer than a file may be is refused as such.
+/// Makes data of so many rows, writes the program of the block recipe, runs it on the data, and gives the summary of the data
+/// and of the arrays that the run leaves. A data text that is longer than a file may be is refused as such.
 pub fn work(alloc: Global, seed: u32, size: u32) -> Result<Text, Stop<Refusal>>
     requires seed { seed ≤ 2147483647 }
     requires size { (1 ≤ size) × (size ≤ 65536) }
-    ensures ok { IfOk result (IsSummary size) }
+    ensures ok { IfOk result (Measured RECIPE.now SOURCE.now size) }
     ensures refused { IfErr result (IfRefused (WorkCause RECIPE.now SOURCE.now)) }
 {
     let written = emit(alloc, RECIPE, SOURCE)?;

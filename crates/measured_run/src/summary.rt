@@ -1,5 +1,6 @@
 // The summary of a measured run.
-ghost use Rattle.std.specs.Prelude.{◌≡◌, ◌++◌, OnOk, IfOk};
+ghost use Rattle.std.specs.Prelude.{◌≡◌, ◌++◌, ◌<◌, ◌^◌, ◌%◌, ℕ, length, slice_index_or, OnOk, IfOk};
+ghost use Rattle.measured_run.specs.Figures.{total, weighed};
 ghost use Rattle.measured_run.specs.Work.{number_line, figures_text};
 
 use chill_base::{List, NoMemory, Text};
@@ -41,7 +42,11 @@ pub(crate) fn lines(alloc: Global, figures: &Figures) -> Result<Text, NoMemory>
 }
 
 /// The sum of the cells modulo 2^64.
-pub(crate) fn sum(cells: &Cells) -> u64 {
+#[tactic(auto, using(crate::proofs::Sums::total_more))]
+pub(crate) fn sum(cells: &Cells) -> u64
+    ensures sum { result ≡ total cells.now }
+    ensures words { (k : ℕ) → k < length cells.now → slice_index_or cells.now k 0 < 2 ^ 64 }
+{
     let mut sum: u64 = 0;
     for at in 0..cells.len() {
         sum = sum.wrapping_add(cells.get(at));
@@ -50,12 +55,14 @@ pub(crate) fn sum(cells: &Cells) -> u64 {
 }
 
 /// The sum modulo 2^64 of the cells, each times one more than its place.
-pub(crate) fn layout(cells: &Cells) -> u64 {
+#[tactic(auto, using(crate::proofs::Sums::weighed_more))]
+pub(crate) fn layout(cells: &Cells) -> u64
+    ensures sum { result ≡ weighed 0 cells.now % 2 ^ 64 }
+    ensures words { (k : ℕ) → k < length cells.now → slice_index_or cells.now k 0 < 2 ^ 64 }
+{
     let mut layout: u64 = 0;
-    let mut place: u64 = 0;
     for at in 0..cells.len() {
-        place = place.wrapping_add(1);
-        layout = layout.wrapping_add(cells.get(at).wrapping_mul(place));
+        layout = layout.wrapping_add(cells.get(at).wrapping_mul(at as u64 + 1));
     }
     layout
 }
