@@ -14,14 +14,14 @@ use Rattle.nest_tree.specs.Terms.{Input}
 use Rattle.nest_systems.specs.Cells.{cells}
 use Rattle.point_laws.specs.Ranges.{IsRanged, HasNoCounts}
 use Rattle.point_laws.specs.Values.{AreSmall}
-use Rattle.point_laws.proofs.Values.{meets-append, small-append}
+use Rattle.point_laws.proofs.Values.{meets-append, meets-once, small-append}
 use Rattle.depend_test.specs.Candidates.{Candidate, IsDecided, whole, alone}
 use Rattle.depend_test.specs.Orders.{order_rows}
 use Rattle.depend_test.specs.Systems.{SameCell, cell_system, with_orders, HasExcluded}
 use Rattle.pair_laws.specs.Pairs.{IsSideAt, StandBefore, pair_point}
 use Rattle.pair_laws.specs.Candidates.{ExcludedHasNoInstances}
 use Rattle.pair_laws.proofs.Pairs.{old-met, new-met}
-use Rattle.pair_laws.proofs.Cells.{meets-once, at, system-vars, equal-rows-met, cell-met}
+use Rattle.pair_laws.proofs.Cells.{at, system-vars, equal-rows-met, cell-met}
 
 -- a row at a place of those that are met
 row-met : (q : List ℤ) (rows : List Row) (j : ℕ) (r : Row) → Meets q rows → j < length rows → slice_index_or rows j r ≡ r → MeetsRow q (slice_index_or rows j r)

@@ -1,9 +1,6 @@
 -- The system of two accesses that name one cell is met where they do.
-use Rattle.std.proofs.Common.{◌≡◌, ℕ, List, map, ◌∙◌, sym, ap, subst, arith, ℤ, pos, ◌+ℤ◌, ◌*ℤ◌, [], ◌∷◌}
-use Rattle.std.proofs.lemmas.Int.{ints}
+use Rattle.std.proofs.Common.{◌≡◌, ℕ, List, map, ◌∙◌, sym, ap, subst, ℤ}
 use Rattle.int_rows.specs.declared.row.Aff.{Aff}
-use Rattle.int_rows.specs.declared.row.Row.{Row}
-use Rattle.int_rows.specs.Rows.{dot, Holds, Meets as MeetsScaled}
 use Rattle.int_rows.specs.Systems.{Rows}
 use Rattle.nest_tree.specs.declared.body.Access.{Access}
 use Rattle.nest_tree.specs.declared.kernel.Kernel.{Kernel}
@@ -21,14 +18,6 @@ use Rattle.depend_test.specs.Systems.{SameCell, cell_system}
 use Rattle.depend_test.specs.declared.side.Side.{Side}
 use Rattle.pair_laws.specs.Pairs.{IsSideAt, pair_point, ArePairAt}
 use Rattle.pair_laws.proofs.Pairs.{rows-met, cells-met}
-
--- a constant that is taken once
-pub meets-once : (p : List ℤ) (rows : List Row) → Meets p rows → MeetsScaled (pos 1) p rows
-meets-once p [] h = tt
-meets-once p (r ∷ rows) h = (subst (Holds r.equal) (once (dot (r.form).coefs p) (r.form).constant) h.0, meets-once p rows h.1)
-  where
-    once : (a c : ℤ) → a +ℤ c ≡ a +ℤ (pos 1 *ℤ c)
-    once a c = omega (arith, ints)
 
 module _ (k : Kernel) (i : Input) (n m : Nest) (fs gs : List Aff) (one other : Side) (vs us : List ℤ) (ranged : IsRanged k.head k.made i) (counts : HasNoCounts k.head k.made)
     (first : IsSideAt k i n fs one vs) (second : IsSideAt k i m gs other us) (a b : Access) (w : SameCell k one other a b) where

@@ -29,7 +29,7 @@ use Rattle.point_laws.specs.Values.{AreSmall}
 use Rattle.point_laws.proofs.Begun.{value-unit}
 use Rattle.point_laws.proofs.Own.{behind, before}
 use Rattle.point_laws.proofs.Seated.{coef-range}
-use Rattle.point_laws.proofs.Values.{length-range, meets-append, small-append}
+use Rattle.point_laws.proofs.Values.{length-range, meets-append, meets-once, small-append}
 use Rattle.depend_test.specs.Candidates.{at_each}
 use Rattle.depend_test.specs.Conflicts.{is_compound, conflict}
 use Rattle.depend_test.specs.First.{IsFirst, none, excluded, found}
@@ -39,7 +39,7 @@ use Rattle.depend_test.specs.Sides.{own_levels}
 use Rattle.depend_test.specs.Systems.{SameCell, cell_system, with_old}
 use Rattle.pair_laws.specs.Pairs.{StandBefore, pair_point}
 use Rattle.pair_laws.specs.Levels.{LevelHasNoDependence}
-use Rattle.pair_laws.proofs.Cells.{meets-once, at, system-vars, cell-met}
+use Rattle.pair_laws.proofs.Cells.{at, system-vars, cell-met}
 use Rattle.pair_laws.proofs.Pairs.{old-met}
 
 -- ---- lists of candidates

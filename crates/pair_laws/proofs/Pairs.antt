@@ -23,22 +23,23 @@ use Rattle.nest_laws.proofs.Lists.{in_append-left, in_append-right}
 use Rattle.nest_laws.proofs.Points.{coef-before, length-map, by_places}
 use Rattle.nest_systems.specs.declared.instance.Instance.{Instance}
 use Rattle.nest_systems.specs.declared.seats.Places.{Places}
-use Rattle.nest_systems.specs.declared.seats.Seats.{Seats}
 use Rattle.nest_systems.specs.Begun.{begun_rows, end_rows}
 use Rattle.nest_systems.specs.Cells.{cells, subscripts}
 use Rattle.nest_systems.specs.Parts.{end_names}
-use Rattle.nest_systems.specs.Placing.{numbers_there, small_total, is_level, seated_number, placed, placed_row, seated_levels}
+use Rattle.nest_systems.specs.Placing as placing
+use Rattle.nest_systems.specs.Placing.{numbers_there, small_total, seated_levels}
 use Rattle.nest_systems.specs.Ranges.{Names}
-use Rattle.nest_systems.specs.Seating.{AreSeats}
 use Rattle.nest_systems.specs.Spans.{unit_form, unit_at}
 use Rattle.nest_systems.specs.Statements.{IsPart, plain_row}
 use Rattle.nest_systems.specs.Sums.{number_at, stopped_difference}
+use Rattle.point_laws.specs.Seats.{Seats, is_level, seated_number, placed, placed_row, AreSeats, plain}
 use Rattle.point_laws.specs.Own.{chosen_values, point_at}
 use Rattle.point_laws.specs.Seated.{IsSeatedSmall}
 use Rattle.point_laws.specs.Values.{AreSmall, BeginsWith}
 use Rattle.point_laws.proofs.Begun.{begun_met, value-unit}
 use Rattle.point_laws.proofs.Own.{behind, before, chosen-at}
 use Rattle.point_laws.proofs.Placed.{placed_value}
+use Rattle.point_laws.proofs.Plain.{are-plain}
 use Rattle.point_laws.proofs.Seated.{number-coef, coef-range}
 use Rattle.point_laws.proofs.Seating.{StandsIn, HasPlaces}
 use Rattle.point_laws.proofs.Sides.{IsPlaced, none-named, placed-well}
@@ -197,6 +198,12 @@ module _ (k : Kernel) (i : Input) (n m : Nest) (fs gs : List Aff) (one other : S
   abbrev b : Instance
   b = other.instance
 
+  abbrev s : Seats
+  s = plain w.first
+
+  abbrev t : Seats
+  t = plain w.second
+
   abbrev q : List ℤ
   q = pair_point i n m vs us one other
 
@@ -279,68 +286,67 @@ module _ (k : Kernel) (i : Input) (n m : Nest) (fs gs : List Aff) (one other : S
   second-room : HasPlaces b (second_places params a b)
   second-room = record { first = omega arith; levels = omega arith; terms = omega arith }
 
-  first-placed : IsPlaced a (first_places params a b) w.first p q (forms n fs) (params + length vs + length n.terms)
+  first-placed : IsPlaced a (first_places params a b) s p q (forms n fs) (params + length vs + length n.terms)
   first-placed =
-      placed-well k.head k.made i n.terms (map plain_row n.rows) (forms n fs) a vs h.ranged h.counts h.first.over first-part (first_places params a b) w.first q refl
-      (subst (λ (l : Names). AreSeats a (first_places params a b) l w.first) no-ends h.pair.first) first-room first-stands h.first.found h.first.small
+      placed-well k.head k.made i n.terms (map plain_row n.rows) (forms n fs) a vs h.ranged h.counts h.first.over first-part (first_places params a b) s q refl
+      (subst (λ (l : Names). AreSeats a (first_places params a b) l s) no-ends (are-plain a (first_places params a b) (pair_ends a b) w.first h.pair.first)) first-room first-stands h.first.found h.first.small
 
-  second-placed : IsPlaced b (second_places params a b) w.second o q (forms m gs) (params + length us + length m.terms)
+  second-placed : IsPlaced b (second_places params a b) t o q (forms m gs) (params + length us + length m.terms)
   second-placed =
-      placed-well k.head k.made i m.terms (map plain_row m.rows) (forms m gs) b us h.ranged h.counts h.second.over second-part (second_places params a b) w.second q refl
-      (subst (λ (l : Names). AreSeats b (second_places params a b) l w.second) no-ends h.pair.second) second-room second-stands h.second.found h.second.small
+      placed-well k.head k.made i m.terms (map plain_row m.rows) (forms m gs) b us h.ranged h.counts h.second.over second-part (second_places params a b) t q refl
+      (subst (λ (l : Names). AreSeats b (second_places params a b) l t) no-ends (are-plain b (second_places params a b) (pair_ends a b) w.second h.pair.second)) second-room second-stands h.second.found h.second.small
 
-  same-vars : w.first.vars ≡ w.second.vars
+  same-vars : s.vars ≡ t.vars
   same-vars = h.pair.first.vars ∙ sym h.pair.second.vars
 
-  first-alone : HasNone w.first w.second
+  first-alone : HasNone s t
   first-alone u v e cs =
       let r = first-placed.there u v e in
       let low = r.0 in let top = r.1 in
       let x = h.pair.second.params in let y = h.pair.second.levels in let z = h.pair.second.first_level in
-      seated-none w.second cs v (no-parameter w.second v (omega (arith, low, x))) (no-level w.second v (omega (arith, low, y, z)))
-      (elim (there_or_not w.second.terms v) [
-        | inl g ↦ absurd (let t = second-placed.there g.0 v g.1 in let c = t.0 in omega (arith, c, top))
+      seated-none t cs v (no-parameter t v (omega (arith, low, x))) (no-level t v (omega (arith, low, y, z)))
+      (elim (there_or_not t.terms v) [
+        | inl g ↦ absurd (let d = second-placed.there g.0 v g.1 in let c = d.0 in omega (arith, c, top))
         | inr g ↦ g
       ])
 
-  second-alone : HasNone w.second w.first
+  second-alone : HasNone t s
   second-alone u v e cs =
       let r = second-placed.there u v e in
       let low = r.0 in
       let x = h.pair.first.params in let y = h.pair.first.levels in let z = h.pair.first.first_level in
-      seated-none w.first cs v (no-parameter w.first v (omega (arith, low, x))) (no-level w.first v (omega (arith, low, y, z)))
-      (elim (there_or_not w.first.terms v) [
-        | inl g ↦ absurd (let t = first-placed.there g.0 v g.1 in let c = t.1 in omega (arith, c, low))
+      seated-none s cs v (no-parameter s v (omega (arith, low, x))) (no-level s v (omega (arith, low, y, z)))
+      (elim (there_or_not s.terms v) [
+        | inl g ↦ absurd (let d = first-placed.there g.0 v g.1 in let c = d.1 in omega (arith, c, low))
         | inr g ↦ g
       ])
 
   -- differences of forms of the first and the second, and the other way round
-  forth : (xs ys : List Aff) → ((f : Aff) → IsIn f xs → IsIn f (forms n fs)) → ((g : Aff) → IsIn g ys → IsIn g (forms m gs)) → DifferencesAre w.first.vars q (map (placed w.first) xs) (map (placed w.second) ys) (map (value p) xs) (map (value o) ys)
+  forth : (xs ys : List Aff) → ((f : Aff) → IsIn f xs → IsIn f (forms n fs)) → ((g : Aff) → IsIn g ys → IsIn g (forms m gs)) → DifferencesAre s.vars q (map (placed s) xs) (map (placed t) ys) (map (value p) xs) (map (value o) ys)
   forth xs ys c d =
-      differences a b (first_places params a b) (second_places params a b) w.first w.second p o q (forms n fs) (forms m gs) (params + length vs + length n.terms) (params + length us + length m.terms) first-placed second-placed same-vars first-alone second-alone xs ys
+      differences a b (first_places params a b) (second_places params a b) s t p o q (forms n fs) (forms m gs) (params + length vs + length n.terms) (params + length us + length m.terms) first-placed second-placed same-vars first-alone second-alone xs ys
       (λ f z. (c f z, h.first.forms f (c f z))) (λ g z. (d g z, h.second.forms g (d g z)))
 
-  back : (xs ys : List Aff) → ((f : Aff) → IsIn f xs → IsIn f (forms n fs)) → ((g : Aff) → IsIn g ys → IsIn g (forms m gs)) → DifferencesAre w.second.vars q (map (placed w.second) ys) (map (placed w.first) xs) (map (value o) ys) (map (value p) xs)
+  back : (xs ys : List Aff) → ((f : Aff) → IsIn f xs → IsIn f (forms n fs)) → ((g : Aff) → IsIn g ys → IsIn g (forms m gs)) → DifferencesAre t.vars q (map (placed t) ys) (map (placed s) xs) (map (value o) ys) (map (value p) xs)
   back xs ys c d =
-      differences b a (second_places params a b) (first_places params a b) w.second w.first o p q (forms m gs) (forms n fs) (params + length us + length m.terms) (params + length vs + length n.terms) second-placed first-placed (sym same-vars) second-alone first-alone ys xs
+      differences b a (second_places params a b) (first_places params a b) t s o p q (forms m gs) (forms n fs) (params + length us + length m.terms) (params + length vs + length n.terms) second-placed first-placed (sym same-vars) second-alone first-alone ys xs
       (λ g z. (d g z, h.second.forms g (d g z))) (λ f z. (c f z, h.first.forms f (c f z)))
 
   -- the rows that speak of no order
   pub rows-met : AreSmall (pair_vars params a b) (pair_rows k a b w.first w.second) → Meets q (pair_rows k a b w.first w.second)
+  unfolding placed seated_number placing.placed placing.seated_number
   rows-met small =
       let vars : ℕ = pair_vars params a b in
-      let s : Seats = w.first in
-      let t : Seats = w.second in
       let ends : List Row = end_rows k.head k.made vars (first_end params a b) (pair_ends a b) in
-      let x = small-append vars (begun_rows k.head vars) (both_rows a b s t ++ ends) small in
-      let y = small-append vars (both_rows a b s t) ends x.1 in
+      let x = small-append vars (begun_rows k.head vars) (both_rows a b w.first w.second ++ ends) small in
+      let y = small-append vars (both_rows a b w.first w.second) ends x.1 in
       let z = small-append vars (map (placed_row s) a.rows) (map (placed_row t) b.rows ++ (map (placed_row s) a.ranges ++ map (placed_row t) b.ranges)) y.0 in
       let u = small-append vars (map (placed_row t) b.rows) (map (placed_row s) a.ranges ++ map (placed_row t) b.ranges) z.1 in
       let v = small-append vars (map (placed_row s) a.ranges) (map (placed_row t) b.ranges) u.1 in
       let first_vars : vars ≡ s.vars = sym h.pair.first.vars in
       let second_vars : vars ≡ t.vars = sym h.pair.second.vars in
-      meets-append q (begun_rows k.head vars) (both_rows a b s t ++ ends) (begun_met k.head k.made i vars q h.ranged (omega arith) begins)
-      (meets-append q (both_rows a b s t) ends
+      meets-append q (begun_rows k.head vars) (both_rows a b w.first w.second ++ ends) (begun_met k.head k.made i vars q h.ranged (omega arith) begins)
+      (meets-append q (both_rows a b w.first w.second) ends
       (meets-append q (map (placed_row s) a.rows) _ (first-placed.own (subst (Meets p) (sym first-part.own_rows) (point-meets i n vs h.first.at)) (subst (λ (c : ℕ). AreSmall c (map (placed_row s) a.rows)) first_vars z.0))
       (meets-append q (map (placed_row t) b.rows) _ (second-placed.own (subst (Meets o) (sym second-part.own_rows) (point-meets i m us h.second.at)) (subst (λ (c : ℕ). AreSmall c (map (placed_row t) b.rows)) second_vars u.0))
       (meets-append q (map (placed_row s) a.ranges) (map (placed_row t) b.ranges) (first-placed.ranges (subst (λ (c : ℕ). AreSmall c (map (placed_row s) a.ranges)) first_vars v.0))
@@ -348,18 +354,20 @@ module _ (k : Kernel) (i : Input) (n m : Nest) (fs gs : List Aff) (one other : S
       (subst (λ (l : Names). Meets q (end_rows k.head k.made vars (first_end params a b) l)) (sym no-ends) tt))
 
   pub cells-met : (c d : Access) → IsIn c (cells n) → IsIn d (cells m) → map (value p) c.at ≡ map (value o) d.at → AreSmall w.first.vars (subscript_rows w c d) → Meets q (subscript_rows w c d)
+  unfolding placed seated_number placing.placed placing.seated_number
   cells-met c d x y e small =
-      equal-met w.first.vars q (length c.at) (map (placed w.first) c.at) (map (placed w.second) d.at) (map (value p) c.at) (map (value o) d.at)
+      equal-met w.first.vars q (length c.at) (map (placed s) c.at) (map (placed t) d.at) (map (value p) c.at) (map (value o) d.at)
       (forth c.at d.at (λ f z. in_append-left f (subscripts (cells n)) fs (in-subscripts (cells n) c f x z)) (λ g z. in_append-left g (subscripts (cells m)) gs (in-subscripts (cells m) d g y z)))
       (subst (λ (l : ℕ). AgreeOn l (map (value p) c.at) (map (value o) d.at)) (length-map (value p) c.at) (agree-self (map (value p) c.at) (map (value o) d.at) e)) small
 
   pub old-met : (carrier shared : ℕ) → StandBefore carrier shared (map (value p) fs) (map (value o) gs) → AreSmall w.first.vars (order_rows w.first.vars carrier shared w.first_old w.second_old) → Meets q (order_rows w.first.vars carrier shared w.first_old w.second_old)
+  unfolding placed seated_number placing.placed placing.seated_number
   old-met carrier shared e small =
-      let d : DifferencesAre w.first.vars q (map (placed w.second) gs) (map (placed w.first) fs) (map (value o) gs) (map (value p) fs) =
-      subst (λ (v : ℕ). DifferencesAre v q (map (placed w.second) gs) (map (placed w.first) fs) (map (value o) gs) (map (value p) fs)) (sym same-vars)
+      let d : DifferencesAre w.first.vars q (map (placed t) gs) (map (placed s) fs) (map (value o) gs) (map (value p) fs) =
+      subst (λ (v : ℕ). DifferencesAre v q (map (placed t) gs) (map (placed s) fs) (map (value o) gs) (map (value p) fs)) (sym same-vars)
       (back fs gs (λ f z. in_append-right f (subscripts (cells n)) fs z) (λ g z. in_append-right g (subscripts (cells m)) gs z)) in
-      let x : w.first_old ≡ map (placed w.first) fs = h.pair.first_old ∙ ap (map (placed w.first)) h.first.side.old in
-      let y : w.second_old ≡ map (placed w.second) gs = h.pair.second_old ∙ ap (map (placed w.second)) h.second.side.old in
+      let x : w.first_old ≡ map (placed s) fs = h.pair.first_old ∙ ap (map (placed s)) h.first.side.old in
+      let y : w.second_old ≡ map (placed t) gs = h.pair.second_old ∙ ap (map (placed t)) h.second.side.old in
       order-met w.first.vars q carrier shared w.first_old w.second_old (map (value p) fs) (map (value o) gs)
       (subst₂ (λ (xs ys : List Aff). DifferencesAre w.first.vars q ys xs (map (value o) gs) (map (value p) fs)) (sym x) (sym y) d) e small
 

@@ -1,3 +1,4 @@
+pub mod Plain
 pub mod Seated
 pub mod Alike
 pub mod Standing

@@ -1,25 +1,30 @@
 -- A statement's own system is met at its points.
 use Rattle.std.proofs.Common.{◌≡◌, ℕ, ◌+◌, ◌<◌, ◌≤◌, List, [], ◌++◌, map, length, refl, sym, ◌∙◌, ap, subst, arith, ℤ}
 use Rattle.c_tree.specs.declared.program.Program.{Program}
+use Rattle.int_rows.specs.declared.row.Aff.{Aff}
+use Rattle.int_rows.specs.declared.row.Row.{Row}
 use Rattle.nest_tree.specs.declared.kernel.Term.{Term}
 use Rattle.nest_tree.specs.declared.made.Made.{Made}
 use Rattle.nest_tree.specs.Lists.{IsAt}
-use Rattle.nest_tree.specs.Forms.{coef, Meets}
+use Rattle.nest_tree.specs.Forms.{value, coef, Meets}
 use Rattle.nest_tree.specs.Terms.{Input, term_values}
 use Rattle.nest_laws.proofs.Points.{coef-before, coef-behind, length-map}
 use Rattle.nest_systems.specs.declared.instance.Instance.{Instance}
 use Rattle.nest_systems.specs.Begun.{begun_rows, end_rows}
 use Rattle.nest_systems.specs.Parts.{end_names}
-use Rattle.nest_systems.specs.Placing.{placed_row}
-use Rattle.nest_systems.specs.Seating.{AreSeats}
-use Rattle.point_laws.specs.Ranges.{IsRanged}
+use Rattle.nest_systems.specs.Statements.{IsPart}
+use Rattle.point_laws.specs.Seats.{Seats, placed, placed_row, AreSeats}
+use Rattle.point_laws.specs.Seated.{IsSeatedSmall}
+use Rattle.point_laws.specs.Alike.{IsMet}
+use Rattle.point_laws.specs.Ranges.{IsRanged, HasNoCounts}
 use Rattle.point_laws.specs.Values.{BeginsWith}
-use Rattle.point_laws.specs.Own.{own_places, point_at, chosen_values, own_point, OwnIsMet}
+use Rattle.point_laws.specs.Own.{own_places, point_at, chosen_values, own_point, AreOver, OwnIsMet}
 use Rattle.point_laws.proofs.Values.{small-append, meets-append}
 use Rattle.point_laws.proofs.Begun.{begun_met}
 use Rattle.point_laws.proofs.Seating.{StandsIn, HasPlaces}
 use Rattle.point_laws.proofs.Readings.{at-inside, coef-of-map, term-at}
-use Rattle.point_laws.proofs.Sides.{none-named, placed-rows-met, placed-ranges-met}
+use Rattle.point_laws.proofs.Placed.{placed_value}
+use Rattle.point_laws.proofs.Sides.{none-named, apart, seated, held-fits, placed-rows-met, placed-ranges-met}
 
 -- what stands behind lists of known lengths
 pub behind : (xs ys : List ℤ) (n k : ℕ) → length xs ≡ n → coef (n + k) (xs ++ ys) ≡ coef k ys
@@ -78,3 +83,17 @@ own_met head made i terms rows forms x s vs r none over part seats m f small_ran
     (meets-append q (map (placed_row s) x.ranges) (end_rows head made s.vars (own_places head x).first_end (end_names x))
     (placed-ranges-met head made i terms rows forms x vs r none over part (own_places head x) s q refl taken places at f small_ranges c.0)
     (subst (λ (l : List (List ℕ)). Meets q (end_rows head made s.vars (own_places head x).first_end l)) (sym ends) tt)))
+
+-- a form each term of which has a seat has its value there
+pub own_value : (head : Program) (made : List Made) (i : Input) (terms : List Term) (rows : List Row) (forms : List Aff) (x : Instance) (s : Seats) (vs : List ℤ)
+    → IsRanged head made i → HasNoCounts head made → AreOver (length head.params + length vs) terms rows → IsPart head made (length vs) terms 0 rows forms x → AreSeats x (own_places head x) (end_names x) s
+    → (g : Aff) → length g.coefs ≤ length head.params + length vs + length terms → IsMet (length head.params + length vs) x.chosen.same g → IsSeatedSmall s g → value (own_point i terms vs x) (placed s g) ≡ value (point_at i terms vs) g
+own_value head made i terms rows forms x s vs r none over part seats g wide met small =
+    let ends = none-named head made i terms rows forms x vs r none over part in
+    let q : List ℤ = own_point i terms vs x in
+    let taken : AreSeats x (own_places head x) [] s = subst (λ (l : List (List ℕ)). AreSeats x (own_places head x) l s) ends seats in
+    let at = stands head made i terms x vs r part.own_levels in
+    let places : HasPlaces x (own_places head x) = places head made i terms x vs r part.own_levels in
+    placed_value s g (point_at i terms vs) q (apart head made i terms rows forms x vs r none over part (own_places head x) s q refl taken places at)
+    (held-fits head made i terms rows forms x vs r none over part (own_places head x) s q refl taken places at g wide met small)
+    (seated head made i terms rows forms x vs r none over part (own_places head x) s q refl taken places at)

@@ -9,8 +9,7 @@ use Rattle.nest_laws.proofs.Forms.{value-replaced}
 use Rattle.nest_laws.proofs.Lists.{map-append}
 use Rattle.nest_laws.proofs.Narrow.{like-value}
 use Rattle.nest_laws.proofs.Points.{dot-same, coef-before, coef-behind, length-map}
-use Rattle.nest_systems.specs.declared.seats.Seats.{Seats}
-use Rattle.nest_systems.specs.Placing.{placed}
+use Rattle.point_laws.specs.Seats.{Seats, placed}
 use Rattle.point_laws.specs.Seated.{AreApart, seat_form, seat_variables}
 use Rattle.point_laws.specs.Placed.{IsSeatedAt, FitsSeats, PlacedFormHasValue, PlacedRowsAreMet}
 use Rattle.point_laws.proofs.Seated.{placed_replaced, below_or_not}

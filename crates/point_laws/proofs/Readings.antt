@@ -1,7 +1,8 @@
 -- What terms read at a point, and systems without reads at the very end.
-use Rattle.std.proofs.Common.{◌≡◌, inl, inr, ℕ, zero, suc, ◌+◌, ◌<◌, List, [], ◌∷◌, ◌++◌, map, length, refl, sym, ◌∙◌, ap, subst, arith, ℤ, append_assoc, length-append}
+use Rattle.std.proofs.Common.{◌≡◌, inl, inr, ℕ, zero, suc, ◌+◌, ◌<◌, Bool, true, false, cond, bytes_eq, List, [], ◌∷◌, ◌++◌, map, length, refl, sym, ◌∙◌, ap, subst, arith, ℤ, pos, negsuc, append_assoc, length-append}
 use Rattle.std.specs.Prelude.{Option, Some, None, slice_get}
 use Rattle.std.specs.List.{filter}
+use Rattle.c_tree.specs.declared.program.Matrix.{Matrix}
 use Rattle.c_tree.specs.declared.program.Program.{Program}
 use Rattle.int_rows.specs.declared.row.Row.{Row}
 use Rattle.nest_tree.specs.declared.kernel.Term.{Term}
@@ -14,10 +15,11 @@ use Rattle.nest_laws.proofs.Terms.{term_values_hold}
 use Rattle.nest_systems.specs.declared.choose.Chosen.{Chosen}
 use Rattle.nest_systems.specs.declared.range.Span.{Span}
 use Rattle.nest_systems.specs.Choosing.{count_of, value_count, with_name, value_counts, is_missing, missing_of, with_counts}
-use Rattle.nest_systems.specs.Ranges.{value_span}
+use Rattle.nest_systems.specs.Ranges.{Names, from_zero, to_one, matrix_value_span, first_span, value_span}
 use Rattle.point_laws.specs.Standing.{AreReads}
 use Rattle.point_laws.specs.Ranges.{HasNoCounts}
 use Rattle.point_laws.specs.Own.{point_at, AreOver}
+use Rattle.point_laws.specs.Examples.{NothingMadeHasNoCounts}
 
 -- ---- lists
 pub got-at : {A : Type 0} (xs : List A) (t : ℕ) (x : A) → slice_get xs t ≡ Some x → IsAt t x xs
@@ -123,3 +125,26 @@ module _ (head : Program) (made : List Made) (none : HasNoCounts head made) wher
   pub none-more : (terms : List Term) (c : Chosen) → with_counts head made terms c ≡ c
   unfolding with_counts
   none-more terms c = rw (no-counts terms c.order) refl
+
+-- ---- ranges of matrices have no counts
+none-count : (params : Names) (ms : List Matrix) (array : List ℕ) (s : Span) → matrix_value_span params ms array ≡ Some s → s.count ≡ None
+unfolding from_zero
+none-count params [] array s e = absurd cc
+none-count params (m ∷ ms) array s e = by (bytes_eq array m.index) (bytes_eq array m.col) e (none-count params ms array s)
+  where
+    is : (t : Span) → t.count ≡ None → Some t ≡ Some s → s.count ≡ None
+    is t h e = let d : t ≡ s = cc in ap (λ (u : Span). u.count) (sym d) ∙ h
+
+    by : (b d : Bool) → cond b (Some (to_one params m.count (pos 0))) (cond d (Some (to_one params m.cols (negsuc 0))) (matrix_value_span params ms array)) ≡ Some s
+        → (matrix_value_span params ms array ≡ Some s → s.count ≡ None) → s.count ≡ None
+    by true d e more = is (to_one params m.count (pos 0)) refl e
+    by false true e more = is (to_one params m.cols (negsuc 0)) refl e
+    by false false e more = more e
+
+pub no_counts : NothingMadeHasNoCounts
+unfolding value_span
+no_counts head array s e = none-count head.params head.matrices array s (by (matrix_value_span head.params head.matrices array) e)
+  where
+    by : (o : Option Span) → first_span o None ≡ Some s → o ≡ Some s
+    by (Some t) h = h
+    by None h = h

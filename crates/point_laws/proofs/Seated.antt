@@ -14,9 +14,9 @@ use Rattle.nest_tree.specs.Pieces.{IsLike}
 use Rattle.nest_core.specs.Numbers.{is_small}
 use Rattle.nest_laws.proofs.Lists.{map-append}
 use Rattle.nest_laws.proofs.Made.{coef-combined}
-use Rattle.nest_systems.specs.declared.seats.Seats.{Seats}
 use Rattle.nest_systems.specs.Sums.{number_at}
-use Rattle.nest_systems.specs.Placing.{numbers_there, total, small_total, or_large, is_level, seated_number, placed}
+use Rattle.nest_systems.specs.Placing.{numbers_there, total, small_total, or_large}
+use Rattle.point_laws.specs.Seats.{Seats, is_level, seated_number, placed}
 use Rattle.point_laws.specs.Seated.{AreApart, seat_form, seat_variables, IsSeatedSmall, PlacedIsReplaced}
 
 pub below_or_not : (k n : ℕ) → (k < n) ⊎ (n ≤ k)

@@ -9,9 +9,9 @@ use Rattle.nest_tree.specs.Lists.{IsIn, IsAt}
 use Rattle.nest_tree.specs.Forms.{coef}
 use Rattle.nest_systems.specs.declared.instance.Instance.{Instance}
 use Rattle.nest_systems.specs.declared.seats.Places.{Places}
-use Rattle.nest_systems.specs.declared.seats.Seats.{Seats}
 use Rattle.nest_systems.specs.Parts.{behind}
-use Rattle.nest_systems.specs.Seating.{is_number, or_else, end_seat, seat, AreSeats}
+use Rattle.nest_systems.specs.Seating.{is_number, or_else, end_seat, seat}
+use Rattle.point_laws.specs.Seats.{Seats, AreSeats}
 use Rattle.point_laws.specs.Seated.{AreApart}
 use Rattle.point_laws.specs.Alike.{IsMet}
 use Rattle.point_laws.specs.Standing.{AreStoodFor}

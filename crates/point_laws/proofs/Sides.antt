@@ -20,14 +20,13 @@ use Rattle.nest_systems.specs.declared.choose.Chosen.{Chosen}
 use Rattle.nest_systems.specs.declared.instance.Instance.{Instance}
 use Rattle.nest_systems.specs.declared.range.Span.{Span}
 use Rattle.nest_systems.specs.declared.seats.Places.{Places}
-use Rattle.nest_systems.specs.declared.seats.Seats.{Seats}
 use Rattle.nest_systems.specs.Choosing.{chosen_of}
 use Rattle.nest_systems.specs.Parts.{widened_term, first_cell, extended_terms, count_var, span_rows, term_rows, rows_of_term, value_rows, name_of_term, end_names}
-use Rattle.nest_systems.specs.Placing.{seated_number, placed, placed_row}
 use Rattle.nest_systems.specs.Ranges.{Names, value_span}
-use Rattle.nest_systems.specs.Seating.{seat, AreSeats}
+use Rattle.nest_systems.specs.Seating.{seat}
 use Rattle.nest_systems.specs.Spans.{low_number, high_number, low_row, high_row, unit_form}
 use Rattle.nest_systems.specs.Statements.{IsPart}
+use Rattle.point_laws.specs.Seats.{Seats, seated_number, placed, placed_row, AreSeats}
 use Rattle.point_laws.specs.Seated.{AreApart, IsSeatedSmall}
 use Rattle.point_laws.specs.Alike.{IsMet}
 use Rattle.point_laws.specs.Standing.{AreStoodFor}

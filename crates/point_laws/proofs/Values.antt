@@ -11,6 +11,7 @@ use Rattle.c_tree.specs.declared.program.Matrix.{Matrix}
 use Rattle.c_tree.specs.declared.program.Program.{Program}
 use Rattle.int_rows.specs.declared.row.Aff.{Aff}
 use Rattle.int_rows.specs.declared.row.Row.{Row}
+use Rattle.int_rows.specs.Rows.{dot, Holds, Meets as MeetsScaled}
 use Rattle.int_rows.specs.Systems.{IsRowOf}
 use Rattle.nest_core.specs.Numbers.{is_small}
 use Rattle.nest_tree.specs.declared.kernel.Term.{Term}
@@ -331,6 +332,14 @@ module _ (i : Input) (s : Span) (t vars : ℕ) (p : List ℤ) (inside : t < vars
 pub meets-append : (p : List ℤ) (rs ss : List Row) → Meets p rs → Meets p ss → Meets p (rs ++ ss)
 meets-append p [] ss h k = k
 meets-append p (r ∷ rs) ss h k = (h.0, meets-append p rs ss h.1 k)
+
+-- a constant that is taken once
+pub meets-once : (p : List ℤ) (rows : List Row) → Meets p rows → MeetsScaled (pos 1) p rows
+meets-once p [] h = tt
+meets-once p (r ∷ rows) h = (subst (Holds r.equal) (once (dot (r.form).coefs p) (r.form).constant) h.0, meets-once p rows h.1)
+  where
+    once : (a c : ℤ) → a +ℤ c ≡ a +ℤ (pos 1 *ℤ c)
+    once a c = omega (arith, ints)
 
 pub small-append : (vars : ℕ) (rs ss : List Row) → AreSmall vars (rs ++ ss) → AreSmall vars rs × AreSmall vars ss
 small-append vars [] ss h = (tt, h)

@@ -4,7 +4,6 @@ use Rattle.std.specs.Prelude.{Option, Some, None, slice_get}
 use Rattle.std.specs.List.{list_all, flat_map, position_from, range_with_len}
 use Rattle.std.proofs.lemmas.Bool.{and_parts, eqb-true}
 use Rattle.std.proofs.lemmas.Int.{ints}
-use Rattle.c_tree.specs.declared.program.Matrix.{Matrix}
 use Rattle.int_rows.specs.declared.row.Aff.{Aff}
 use Rattle.int_rows.specs.declared.row.Row.{Row}
 use Rattle.nest_tree.specs.declared.kernel.Term.{Term}
@@ -15,45 +14,22 @@ use Rattle.nest_tree.specs.Forms.{coef, Meets}
 use Rattle.nest_tree.specs.Terms.{found}
 use Rattle.nest_systems.specs.declared.choose.Chosen.{Chosen}
 use Rattle.nest_systems.specs.declared.range.Span.{Span}
-use Rattle.nest_systems.specs.declared.seats.Seats.{Seats}
 use Rattle.nest_systems.specs.Begun.{begun_rows, end_rows}
 use Rattle.nest_systems.specs.Choosing.{are_equal, meet_term, chosen_of, with_counts}
 use Rattle.nest_systems.specs.Parts.{behind, name_of_term, extended_terms, value_rows, end_names}
-use Rattle.nest_systems.specs.Placing.{numbers_there, or_large, small_total, seated_number, placed, placed_row}
-use Rattle.nest_systems.specs.Ranges.{Names, coef_of, of_two, of_one, of_none, from_zero, to_one, matrix_value_span, first_span, value_span}
+use Rattle.nest_systems.specs.Placing.{numbers_there, or_large, small_total}
+use Rattle.nest_systems.specs.Ranges.{Names, coef_of, of_two, of_one, of_none, from_zero, to_one, first_span, value_span}
 use Rattle.nest_systems.specs.Seating.{is_number, or_else, end_seat, seat}
 use Rattle.nest_systems.specs.Spans.{low_number, high_number, low_row, high_row, unit_form}
 use Rattle.nest_systems.specs.Sums.{stopped_sum, stopped_difference, stopped_product, number_at}
+use Rattle.point_laws.specs.Seats.{Seats, seated_number, placed, placed_row}
 use Rattle.point_laws.specs.Ranges.{InSpan, IsRanged}
 use Rattle.point_laws.specs.Own.{own_places, own_rows, own_point, chosen_values, end_values, point_at, AreOver, AreFound}
 use Rattle.point_laws.specs.Values.{AreSmall}
 use Rattle.point_laws.proofs.Alike.{coef-past}
 use Rattle.point_laws.proofs.Own.{own_met}
-use Rattle.point_laws.proofs.Readings.{at-in, none-missing}
-use Rattle.point_laws.specs.Examples.{n, z, x, c, sparse, form, at_least, terms, rows, begins, input, levels, system, NothingMadeHasNoCounts, SparseSystem}
-
--- ---- ranges of matrices have no counts
-none-count : (params : Names) (ms : List Matrix) (array : List ℕ) (s : Span) → matrix_value_span params ms array ≡ Some s → s.count ≡ None
-unfolding from_zero
-none-count params [] array s e = absurd cc
-none-count params (m ∷ ms) array s e = by (bytes_eq array m.index) (bytes_eq array m.col) e (none-count params ms array s)
-  where
-    is : (t : Span) → t.count ≡ None → Some t ≡ Some s → s.count ≡ None
-    is t h e = let d : t ≡ s = cc in ap (λ (u : Span). u.count) (sym d) ∙ h
-
-    by : (b d : Bool) → cond b (Some (to_one params m.count (pos 0))) (cond d (Some (to_one params m.cols (negsuc 0))) (matrix_value_span params ms array)) ≡ Some s
-        → (matrix_value_span params ms array ≡ Some s → s.count ≡ None) → s.count ≡ None
-    by true d e more = is (to_one params m.count (pos 0)) refl e
-    by false true e more = is (to_one params m.cols (negsuc 0)) refl e
-    by false false e more = more e
-
-pub no_counts : NothingMadeHasNoCounts
-unfolding value_span
-no_counts head array s e = none-count head.params head.matrices array s (by (matrix_value_span head.params head.matrices array) e)
-  where
-    by : (o : Option Span) → first_span o None ≡ Some s → o ≡ Some s
-    by (Some t) h = h
-    by None h = h
+use Rattle.point_laws.proofs.Readings.{at-in, none-missing, no_counts}
+use Rattle.point_laws.specs.Examples.{n, z, x, c, sparse, form, at_least, terms, rows, begins, input, levels, system, SparseSystem}
 
 -- ---- the entries of rows
 -- what the code chooses: both terms, in the order in which the rows hold them

@@ -7,10 +7,9 @@ use Rattle.nest_tree.specs.declared.kernel.Term.{Term}
 use Rattle.nest_tree.specs.Forms.{Meets}
 use Rattle.nest_tree.specs.Terms.{Input}
 use Rattle.nest_systems.specs.declared.instance.Instance.{Instance}
-use Rattle.nest_systems.specs.declared.seats.Seats.{Seats}
 use Rattle.nest_systems.specs.Parts.{end_names}
-use Rattle.nest_systems.specs.Seating.{AreSeats}
 use Rattle.nest_systems.specs.Statements.{IsPart}
+use Rattle.point_laws.specs.Seats.{Seats, AreSeats}
 use Rattle.point_laws.specs.Ranges.{IsRanged, HasNoCounts}
 use Rattle.point_laws.specs.Own.{own_places, own_rows, own_point, AreOver, AreFound, point_at}
 

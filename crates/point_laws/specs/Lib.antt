@@ -1,3 +1,4 @@
+pub mod Seats
 pub mod Seated
 pub mod Alike
 pub mod Standing

@@ -11,12 +11,10 @@ use Rattle.nest_tree.specs.Terms.{Input, or_zero, term_values, IsFound}
 use Rattle.nest_laws.specs.KernelLaws.{HaveSomeRanks}
 use Rattle.nest_systems.specs.declared.instance.Instance.{Instance}
 use Rattle.nest_systems.specs.declared.seats.Places.{Places}
-use Rattle.nest_systems.specs.declared.seats.Seats.{Seats}
 use Rattle.nest_systems.specs.Begun.{begun_rows, end_rows}
 use Rattle.nest_systems.specs.Parts.{end_names}
-use Rattle.nest_systems.specs.Placing.{placed_row}
-use Rattle.nest_systems.specs.Seating.{AreSeats}
 use Rattle.nest_systems.specs.Statements.{IsPart}
+use Rattle.point_laws.specs.Seats.{Seats, placed_row, AreSeats}
 use Rattle.point_laws.specs.Ranges.{IsRanged, HasNoCounts}
 use Rattle.point_laws.specs.Values.{AreSmall}
 

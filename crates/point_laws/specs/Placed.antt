@@ -4,8 +4,7 @@ use Rattle.std.specs.List.{AllByRecursion}
 use Rattle.int_rows.specs.declared.row.Aff.{Aff}
 use Rattle.int_rows.specs.declared.row.Row.{Row}
 use Rattle.nest_tree.specs.Forms.{value, coef, Meets}
-use Rattle.nest_systems.specs.declared.seats.Seats.{Seats}
-use Rattle.nest_systems.specs.Placing.{placed, placed_row}
+use Rattle.point_laws.specs.Seats.{Seats, placed, placed_row}
 use Rattle.point_laws.specs.Seated.{AreApart, IsSeatedSmall}
 use Rattle.point_laws.specs.Alike.{IsMet}
 

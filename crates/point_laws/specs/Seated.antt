@@ -4,8 +4,7 @@ use Rattle.int_rows.specs.declared.row.Aff.{Aff}
 use Rattle.nest_tree.specs.Forms.{variable, variables, number, replaced}
 use Rattle.nest_tree.specs.Pieces.{IsLike}
 use Rattle.nest_core.specs.Numbers.{is_small}
-use Rattle.nest_systems.specs.declared.seats.Seats.{Seats}
-use Rattle.nest_systems.specs.Placing.{is_level, seated_number, placed}
+use Rattle.point_laws.specs.Seats.{Seats, is_level, seated_number, placed}
 
 -- the seats are apart: parameters first, then all levels, then the terms
 pub record AreApart (s : Seats) : Type 0 where

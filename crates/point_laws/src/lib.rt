@@ -1,6 +1,7 @@
 //! Laws of systems at points: what a statement's system says holds where the statement has a point.
 #![tactic(auto)]
 
+ghost use Rattle.point_laws.specs.Seats.{PlainPlacesAlike};
 ghost use Rattle.point_laws.specs.Seated.{PlacedIsReplaced};
 ghost use Rattle.point_laws.specs.Alike.{EqualFormsHaveOneValue};
 ghost use Rattle.point_laws.specs.Standing.{TermsAreStoodFor};
@@ -9,6 +10,11 @@ ghost use Rattle.point_laws.specs.Values.{ValueRowsAreMet};
 ghost use Rattle.point_laws.specs.Begun.{BegunRowsAreMet};
 ghost use Rattle.point_laws.specs.Own.{OwnIsMet};
 ghost use Rattle.point_laws.specs.Examples.{NothingMadeHasNoCounts, SparseSystem};
+
+/// The code's seats as plain data give the rows that the code gives.
+pub fn plain_places_alike()
+    ensures { PlainPlacesAlike }
+{}
 
 /// A form in its seats is the form with each variable replaced by its seat.
 pub fn placed_is_replaced()
