@@ -19,6 +19,7 @@ use Rattle.nest_systems.specs.declared.instance.Instance.{Instance}
 use Rattle.nest_systems.specs.Spans.{unit_form}
 use Rattle.nest_systems.specs.Extents.{extent_form}
 use Rattle.nest_systems.specs.Statements.{plain_row}
+use Rattle.point_laws.specs.Seats.{placed}
 use Rattle.acceptance.specs.Expressions.{Expression, plain, plains}
 use Rattle.acceptance.specs.Affine.{mentions}
 use Rattle.acceptance.specs.Forms.{Vars, form, reads_of, is_among}
@@ -26,7 +27,7 @@ use Rattle.acceptance.specs.Visits.{Passed, Asked, bounds, test, assignment, Vis
 use Rattle.acceptance.specs.Around.{loop_names, around_expressions, own_expressions, cells_of}
 use Rattle.acceptance.specs.Judged.{Judged, first}
 use Rattle.acceptance.specs.Limits.{extents}
-use Rattle.acceptance.specs.Systems.{instance_of, seats_of, placed, own_system}
+use Rattle.acceptance.specs.Systems.{instance_of, seats_of, own_system}
 use Rattle.acceptance.specs.Rows.{rows_in, terms_of, vars_count}
 
 -- where an access stands: what stands around, the number of its statement, all names of that statement, and all reads that are named up to its end
@@ -77,13 +78,14 @@ abbrev pub inside_extent : Sight → Vars → Name → Aff → Option Aff → Ju
 inside_extent s v array f None = None
 inside_extent s v array f (Some extent) = let i : Instance = known s v f in within_extent s array i f extent (own_system s.head [] i)
 
--- the extent of an array at a place, as a form of the parameters
+-- an extent as a form of the parameters, where there is one
+abbrev pub extent_of : Program → Option Index → Option Aff
+extent_of p None = None
+extent_of p (Some x) = extent_form p.params x
+
+-- the extent of an array at a place
 abbrev pub extent_at : Program → Name → ℕ → Option Aff
-extent_at p array place = form_of (slice_get (extents p.arrays array) place)
-  where
-    form_of : Option Index → Option Aff
-    form_of None = None
-    form_of (Some x) = extent_form p.params x
+extent_at p array place = extent_of p (slice_get (extents p.arrays array) place)
 
 -- a subscript, where what it names besides what stands around is found
 abbrev pub inside : Sight → List Expression → Name → ℕ → Expression → Judged

@@ -1,6 +1,7 @@
 pub mod Plain
 pub mod Formed
 pub mod Rows
+pub mod Widths
 pub mod Judged
 pub mod Listed
 pub mod Reached
@@ -10,6 +11,8 @@ pub mod Trees
 pub mod Found
 pub mod Walked
 pub mod Mentioned
+pub mod Ranges
+pub mod Systems
 pub mod Terms
 pub mod Asked
 pub mod Placed

@@ -1,6 +1,6 @@
 -- Where a run comes, all that is known there holds, and what is judged inside is inside.
 use Rattle.std.specs.Prelude.{bytes_eq, unsigned_abs, ◌≤◌}
-use Rattle.std.proofs.Common.{◌≡◌, inl, inr, ℕ, Bool, true, false, ◌⊎◌, ◌||◌, List, [], ◌∷◌, ◌++◌, map, filter, length, refl, sym, ◌∙◌, ap, subst, arith, ℤ, pos, ◌≤ℤ◌, ◌<ℤ◌, Ok, Some, None}
+use Rattle.std.proofs.Common.{◌≡◌, inl, inr, ℕ, Bool, true, false, ◌⊎◌, ◌||◌, List, [], ◌∷◌, ◌++◌, map, length, length-append, refl, sym, ◌∙◌, ap, subst, arith, ℤ, pos, ◌≤ℤ◌, ◌<ℤ◌, Ok, Some, None}
 use Rattle.std.proofs.lemmas.Slice.Eq.{bytes_eq-Decides}
 use Rattle.nest_laws.proofs.Lists.{in_append-left, in_append-right}
 use Rattle.std.specs.List.{list_any, flat_map, AllByRecursion}
@@ -10,37 +10,37 @@ use Rattle.source_limits.specs.declared.reads.Read.{Read}
 use Rattle.int_rows.specs.declared.row.Aff.{Aff}
 use Rattle.c_meaning.specs.Names.{Name, line}
 use Rattle.c_meaning.specs.Value.{Sight, value_of, cell_seen}
-use Rattle.c_meaning.specs.Listing.{Scene, bind}
+use Rattle.c_meaning.specs.Listing.{Scene}
 use Rattle.nest_tree.specs.Loops.{Levels}
 use Rattle.nest_tree.specs.Lists.{IsIn}
 use Rattle.nest_tree.specs.Forms.{value}
 use Rattle.nest_laws.specs.Trees.{bind_all}
-use Rattle.nest_laws.specs.Weights.{HasSize}
 use Rattle.nest_laws.proofs.Weights.{small}
 use Rattle.acceptance.specs.Expressions.{Expression, plain, index_of}
-use Rattle.acceptance.specs.Affine.{is_plain, is_index_array, Mention, mentions, lowers, uppers}
-use Rattle.acceptance.specs.Sizes.{Size, size_of, weight}
+use Rattle.acceptance.specs.Affine.{Mention, mentions}
+use Rattle.acceptance.specs.Sizes.{Size, size_of}
 use Rattle.acceptance.specs.Forms.{Vars, form, over_names, read_of, is_among, reads_of}
 use Rattle.acceptance.specs.Visits.{Passed, looped, tested}
 use Rattle.acceptance.specs.Around.{loop_names, around_expressions}
-use Rattle.acceptance.specs.Rows.{rows_in}
-use Rattle.acceptance.specs.Judged.{first}
 use Rattle.acceptance.specs.Inside as judged
 use Rattle.acceptance.specs.Inside.{vars_with, extent_at, inside, terms_inside}
 use Rattle.acceptance_laws.specs.Reached.{Reached}
 use Rattle.acceptance_laws.specs.Formed.{is_in_scope, AreApart, sizes_of, point, read_value, KeepSizes, IsFound}
 use Rattle.acceptance_laws.specs.Listed.{HasSmallAt}
-use Rattle.acceptance_laws.specs.Rows.{IsOperand, IsMet, SystemIsMet}
+use Rattle.acceptance_laws.specs.Rows.{SystemIsMet}
 use Rattle.acceptance_laws.specs.Scopes.{IsScoped, IsEvaluated}
 use Rattle.acceptance_laws.specs.Seen.{IsSeen, AreSeen, IsInScope}
 use Rattle.acceptance_laws.specs.Kept.{IsKeptBy, IsKept, HasSmallCells}
-use Rattle.acceptance_laws.specs.Scene.{Finds, IsSightIn, IsSceneOf}
-use Rattle.acceptance_laws.proofs.Formed.{all-left, all-right, any-append, plain_has}
+use Rattle.acceptance_laws.specs.Systems.{HasTermsOf, Finds, IsSightIn}
+use Rattle.acceptance_laws.specs.Scene.{IsSceneOf}
+use Rattle.acceptance_laws.proofs.Formed.{all-left, plain_has}
 use Rattle.acceptance_laws.proofs.Rows.{rows_say, all-both}
 use Rattle.acceptance_laws.proofs.Judged.{judged_inside}
 use Rattle.acceptance_laws.proofs.Listed.{listed, apart-filter, in-filter, all-none}
 use Rattle.acceptance_laws.proofs.Scopes.{keeps, within, sight-is}
 use Rattle.acceptance_laws.proofs.Seen.{inner as inner_scoped, wider}
+use Rattle.acceptance_laws.proofs.Systems.{systems_met}
+use Rattle.acceptance_laws.proofs.Widths.{form-narrow}
 use Rattle.acceptance_laws.proofs.Found.{IsTerm, are_terms, all_in, are_found, all_operands}
 use Rattle.acceptance_laws.proofs.Mentioned.{among-in, among-kept, mentioned, at_in, all_from, all-flat}
 use Rattle.acceptance_laws.proofs.Walked.{walk, one_more, lower_operands, upper_operands, side_operand, small_bounds}
@@ -230,12 +230,21 @@ module _ (p : Program) (c : Scene) (sizes : List Size) (ps : List Passed) (inner
           let f = at_in _ (flat_map (mentions p.matrices) (around ++ es)) (all-flat p.matrices _ (around ++ es) all_found_there) j.0 j.1 in
           subst (Finds Here names) (sym j.2) (f.cell, f.found))
 
+      -- each read's form is over the names
+      over_names_alone : HasTermsOf known
+      over_names_alone = all_from _ known.reads (λ q h.
+          let k = in-filter (is_among (reads_of p.matrices names (around ++ es))) q sight.reads h in
+          let j = mentioned p.matrices names (around ++ es) q (among-in _ q k.0) in
+          let w = form-narrow (over_names names) (j.0).at in
+          let e = ap (λ (r : Read). length (r.at).coefs) j.2 in
+          omega (arith, w, e))
+
       met : (f : Aff) → SystemIsMet sight known f (point Here known)
       met f =
           let values = evaluated p.matrices sizes Here known inner come.apart reads_apart cells_small p.params ps come.scoped refl keep come.kept come.seen
           (all_from _ around (λ x h. listed_of x (in_append-left x around es h))) in
           let rows = (rows_say (length p.params) 0 Here known p.params inner ps (omega arith) refl).1 (within sizes known p.params ps c e come.scoped values come.reached) in
-          come.scene.systems sight known f Here refl refl sight_in rows found_reads
+          systems_met c sight known f Here come.scene.ranged (record { inner = inner; names = refl; same = refl }) over_names_alone sight_in rows found_reads
 
       point_front : (rest : List ℤ) × (point Here known ≡ map c.sight.value p.params ++ rest)
       point_front =
@@ -250,7 +259,8 @@ module _ (p : Program) (c : Scene) (sizes : List Size) (ps : List Passed) (inner
       pub is_inside : (array : Name) (place : ℕ) (x : Expression) (extent : Aff) → extent_at p array place ≡ Some extent → inside sight es array place x ≡ None
           → (pos 0 ≤ℤ value (point Here known) (form x known)) × (rest : List ℤ) × (value (point Here known) (form x known) <ℤ value (map c.sight.value p.params ++ rest) extent)
       is_inside array place x extent h k =
-          let r = judged_inside sight es array place x extent (point Here known) h k (met (form x known)) in
+          let l = length-append p.params (loop_names ps ++ inner) in
+          let r = judged_inside sight es array place x extent (point Here known) (omega (arith, l)) h k (met (form x known)) in
           (r.0, point_front.0, subst (λ (q : List ℤ). value (point Here known) (form x known) <ℤ value q extent) point_front.1 r.1)
 
       -- its own expression has its form's value

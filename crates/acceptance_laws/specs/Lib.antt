@@ -7,6 +7,7 @@ pub mod Listed
 pub mod Seen
 pub mod Trees
 pub mod Kept
+pub mod Systems
 pub mod Scene
 pub mod Placed
 pub mod Safe

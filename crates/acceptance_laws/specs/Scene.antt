@@ -1,48 +1,29 @@
 -- What a run of an accepted program sees.
 use Rattle.std.specs.Prelude.{ℕ, suc, ◌∷◌, ◌≡◌, ℤ, pos, ◌≤ℤ◌, ◌<ℤ◌, true, List, [], ◌++◌, map, length, Some}
-use Rattle.std.specs.List.{AllByRecursion}
 use Rattle.c_tree.specs.declared.index.Cell.{Cell}
 use Rattle.c_tree.specs.declared.program.Program.{Program}
 use Rattle.int_rows.specs.declared.row.Aff.{Aff}
-use Rattle.source_limits.specs.declared.reads.Read.{Read}
 use Rattle.c_meaning.specs.Names.{Name, line}
-use Rattle.c_meaning.specs.Value.{Sight, cell_seen}
+use Rattle.c_meaning.specs.Value.{cell_seen}
 use Rattle.c_meaning.specs.Listing.{Scene}
 use Rattle.nest_tree.specs.Lists.{Pairwise}
 use Rattle.nest_tree.specs.Forms.{value}
 use Rattle.nest_laws.specs.Acts.{three}
+use Rattle.point_laws.specs.Ranges.{IsRanged}
 use Rattle.acceptance.specs.Expressions.{plains}
 use Rattle.acceptance.specs.Affine.{is_index_array}
-use Rattle.acceptance.specs.Forms.{Vars}
-use Rattle.acceptance.specs.Rows.{rows_in}
-use Rattle.acceptance.specs.Inside as judged
 use Rattle.acceptance.specs.Inside.{extent_at}
-use Rattle.acceptance_laws.specs.Formed.{KeepSizes, point}
-use Rattle.acceptance_laws.specs.Rows.{IsMet, SystemIsMet}
+use Rattle.acceptance_laws.specs.Formed.{KeepSizes}
 use Rattle.acceptance_laws.specs.Kept.{HasSmallCells}
+use Rattle.acceptance_laws.specs.Systems.{seen}
 
--- the read finds its cell
-abbrev pub Finds : Sight → List Name → Read → Type 0
-Finds d names r = (w : ℤ) × (cell_seen d r.array (line (value (map d.value names) r.at)) ≡ Some w)
-
--- a sight in the loops of a scene: it sees the same arrays and parameters
-pub record IsSightIn (p : Program) (c : Scene) (d : Sight) : Type 0 where
-  pub arrays : d ≡ record { value = d.value; extents = c.sight.extents; index = c.sight.index }
-  pub params : map d.value p.params ≡ map c.sight.value p.params
-
--- where the rows of what stands around hold and all reads find their cells, the system of what is known there has a point
-abbrev pub SystemsAreMet : Program → Scene → Type 0
-SystemsAreMet p c =
-    (s : judged.Sight) (v : Vars) (f : Aff) (d : Sight) → s.head ≡ p → v.names ≡ s.names → IsSightIn p c d → AllByRecursion (IsMet d v) (rows_in (length p.params) v 0 s.around) → AllByRecursion (Finds d v.names) v.reads
-    → SystemIsMet s v f (point d v)
-
--- the parameters are at most 2^24 in size, and so are the cells of the matrices' arrays; each of these has one extent, a form of the parameters, below which each subscript from 0 on finds its cell
+-- the parameters are at most 2^24 in size, and so are the cells of the matrices' arrays; each of these has one extent, a form of the parameters, below which each subscript from 0 on finds its cell; and all arrays keep the ranges that systems say of them
 pub record IsSceneOf (p : Program) (c : Scene) : Type 0 where
   pub params : KeepSizes [] c.sight p.params
   pub cells : HasSmallCells p.matrices c.sight
   pub terms : (a : Name) → is_index_array p.matrices a ≡ true
       → (extent : Aff) × (extent_at p a 0 ≡ Some extent) × ((rest : List ℤ) (z : ℤ) → pos 0 ≤ℤ z → z <ℤ value (map c.sight.value p.params ++ rest) extent → (w : ℤ) × (cell_seen c.sight a (line z) ≡ Some w))
-  pub systems : SystemsAreMet p c
+  pub ranged : IsRanged p [] (seen p c)
 
 -- a number is at least 0 and below an extent
 abbrev pub IsBelow : Program → Scene → Aff → ℤ → Type 0

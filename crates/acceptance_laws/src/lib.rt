@@ -8,6 +8,7 @@ ghost use Rattle.acceptance_laws.specs.Rows.{BoundsHaveValues, RowsSayWithin, Ju
 ghost use Rattle.acceptance_laws.specs.Safe.{AcceptedIsFine};
 ghost use Rattle.acceptance_laws.specs.Scopes.{ReachedIsWithin};
 ghost use Rattle.acceptance_laws.specs.Seen.{SafeIsFine};
+ghost use Rattle.acceptance_laws.specs.Systems.{RangedSystemsAreMet};
 ghost use Rattle.acceptance_laws.specs.Trees.{SafeExecutorIsFine};
 
 /// The form of an affine expression has the expression's value, and the expression has its judged size.
@@ -40,6 +41,11 @@ pub fn judged_is_inside()
     ensures { JudgedIsInside }
 {}
 
+/// Where the arrays keep their ranges and a run comes, the system of what is known there has a point.
+pub fn ranged_systems_are_met()
+    ensures { RangedSystemsAreMet }
+{}
+
 /// Each term that an expression names is among the reads, and no two of these are the same.
 pub fn mentions_are_listed()
     ensures { MentionsAreListed }
@@ -55,7 +61,7 @@ pub fn safe_executor_is_fine()
     ensures { SafeExecutorIsFine }
 {}
 
-/// An accepted program reaches no fault, wherever its systems are met at points.
+/// An accepted program reaches no fault in a scene that keeps the ranges of its signature.
 pub fn accepted_is_fine()
     ensures { AcceptedIsFine }
 {}

@@ -17,7 +17,8 @@ use Rattle.nest_core.specs.Terms.{held, names, names_inside}
 use Rattle.nest_systems.specs.declared.instance.Instance.{Instance}
 use Rattle.nest_systems.specs.Sums.{number_at}
 use Rattle.nest_systems.specs.Spans.{is_there}
-use Rattle.acceptance.specs.Systems.{instance_of, Seats, placed, seats_of, own_system}
+use Rattle.point_laws.specs.Seats.{Seats, placed}
+use Rattle.acceptance.specs.Systems.{instance_of, seats_of, own_system}
 
 -- ---- direct rows
 -- the levels from one on, which counts from 1, as variables

@@ -14,6 +14,7 @@ use Rattle.nest_systems.specs.Begun as begun
 use Rattle.nest_systems.specs.Parts as parts
 use Rattle.nest_systems.specs.Choosing as choosing
 use Rattle.nest_systems.specs.Placing as placing
+use Rattle.point_laws.specs.Seats as seats
 use Rattle.nest_systems.specs.Cells as cells
 use Rattle.scan_forms.specs.Bounds as bounds
 use Rattle.scan_forms.specs.Sums as printing
@@ -80,7 +81,7 @@ side order s nest = body_printed tiled table order sizes s (at_of tiled table ne
 
 from_sides : text (by_reads (entry_in 8 ∷ []) (entry_in 9 ∷ column_in_x ∷ []))
     ≡ executor (side (0 ∷ 1 ∷ []) 0 tiled_sum (body.At (entry_in 8))) (side (0 ∷ 1 ∷ 2 ∷ []) 1 tiled_product (body.Times (body.At (entry_in 9)) (body.At column_in_x)))
-unfolding scanned table_of left_at is_implied elimination.canceled elimination.reduced elimination.outcome elimination.made_small elimination.paired elimination.made elimination.merged elimination.elimination exclusion.is_impossible exclusion.exclusion systems.pushed systems.substituted systems.eliminated systems.excluded systems.implied gcd.gcd gcd.gcd_of terms.held sums.stopped_sum sums.stopped_difference sums.stopped_product sums.number_at spans.low_number spans.high_number spans.low_row spans.high_row spans.unit_form ranges.coef_of ranges.of_two ranges.of_one ranges.of_none ranges.from_zero ranges.kept_span ranges.made_value_span ranges.pointer_span ranges.made_first_span ranges.made_second_span ranges.made_argument_span ranges.value_span ranges.argument_span extents.with_multiple extents.extent_form begun.begun_rows parts.value_rows parts.extended_terms choosing.are_equal choosing.meet_term choosing.chosen_of choosing.with_counts placing.small_total cells.reads cells.cells bounds.with_bound bounds.rising bounds.falling bounds.with_claim printing.printed_size printing.with_summand printing.with_constant
+unfolding scanned table_of left_at is_implied elimination.canceled elimination.reduced elimination.outcome elimination.made_small elimination.paired elimination.made elimination.merged elimination.elimination exclusion.is_impossible exclusion.exclusion systems.pushed systems.substituted systems.eliminated systems.excluded systems.implied gcd.gcd gcd.gcd_of terms.held sums.stopped_sum sums.stopped_difference sums.stopped_product sums.number_at spans.low_number spans.high_number spans.low_row spans.high_row spans.unit_form ranges.coef_of ranges.of_two ranges.of_one ranges.of_none ranges.from_zero ranges.kept_span ranges.made_value_span ranges.pointer_span ranges.made_first_span ranges.made_second_span ranges.made_argument_span ranges.value_span ranges.argument_span extents.with_multiple extents.extent_form begun.begun_rows parts.value_rows parts.extended_terms choosing.are_equal choosing.meet_term choosing.chosen_of choosing.with_counts placing.small_total seats.placed seats.seated_number cells.reads cells.cells bounds.with_bound bounds.rising bounds.falling bounds.with_claim printing.printed_size printing.with_summand printing.with_constant
 from_sides = refl
 
 abbrev at : Nest → Access → List Affine
@@ -90,16 +91,16 @@ abbrev entry : Expr
 entry = expr.At (cell (97 ∷ []) (Var t3))
 
 cell_in_sum : after (cell_printed tiled table (0 ∷ 1 ∷ []) sizes 0 (97 ∷ []) (at tiled_sum (entry_in 8))) (λ c. Ok (expr.At c)) ≡ Ok entry
-unfolding scanned table_of left_at is_implied elimination.canceled elimination.reduced elimination.outcome elimination.made_small elimination.paired elimination.made elimination.merged elimination.elimination exclusion.is_impossible exclusion.exclusion systems.pushed systems.substituted systems.eliminated systems.excluded systems.implied gcd.gcd gcd.gcd_of terms.held sums.stopped_sum sums.stopped_difference sums.stopped_product sums.number_at spans.low_number spans.high_number spans.low_row spans.high_row spans.unit_form ranges.coef_of ranges.of_two ranges.of_one ranges.of_none ranges.from_zero ranges.kept_span ranges.made_value_span ranges.pointer_span ranges.made_first_span ranges.made_second_span ranges.made_argument_span ranges.value_span ranges.argument_span extents.with_multiple extents.extent_form begun.begun_rows parts.value_rows parts.extended_terms choosing.are_equal choosing.meet_term choosing.chosen_of choosing.with_counts placing.small_total cells.reads cells.cells bounds.with_bound bounds.rising bounds.falling bounds.with_claim printing.printed_size printing.with_summand printing.with_constant
+unfolding scanned table_of left_at is_implied elimination.canceled elimination.reduced elimination.outcome elimination.made_small elimination.paired elimination.made elimination.merged elimination.elimination exclusion.is_impossible exclusion.exclusion systems.pushed systems.substituted systems.eliminated systems.excluded systems.implied gcd.gcd gcd.gcd_of terms.held sums.stopped_sum sums.stopped_difference sums.stopped_product sums.number_at spans.low_number spans.high_number spans.low_row spans.high_row spans.unit_form ranges.coef_of ranges.of_two ranges.of_one ranges.of_none ranges.from_zero ranges.kept_span ranges.made_value_span ranges.pointer_span ranges.made_first_span ranges.made_second_span ranges.made_argument_span ranges.value_span ranges.argument_span extents.with_multiple extents.extent_form begun.begun_rows parts.value_rows parts.extended_terms choosing.are_equal choosing.meet_term choosing.chosen_of choosing.with_counts placing.small_total seats.placed seats.seated_number cells.reads cells.cells bounds.with_bound bounds.rising bounds.falling bounds.with_claim printing.printed_size printing.with_summand printing.with_constant
 cell_in_sum = refl
 
 cell_in_product : after (cell_printed tiled table (0 ∷ 1 ∷ 2 ∷ []) sizes 1 (97 ∷ []) (at tiled_product (entry_in 9))) (λ c. Ok (expr.At c)) ≡ Ok entry
-unfolding scanned table_of left_at is_implied elimination.canceled elimination.reduced elimination.outcome elimination.made_small elimination.paired elimination.made elimination.merged elimination.elimination exclusion.is_impossible exclusion.exclusion systems.pushed systems.substituted systems.eliminated systems.excluded systems.implied gcd.gcd gcd.gcd_of terms.held sums.stopped_sum sums.stopped_difference sums.stopped_product sums.number_at spans.low_number spans.high_number spans.low_row spans.high_row spans.unit_form ranges.coef_of ranges.of_two ranges.of_one ranges.of_none ranges.from_zero ranges.kept_span ranges.made_value_span ranges.pointer_span ranges.made_first_span ranges.made_second_span ranges.made_argument_span ranges.value_span ranges.argument_span extents.with_multiple extents.extent_form begun.begun_rows parts.value_rows parts.extended_terms choosing.are_equal choosing.meet_term choosing.chosen_of choosing.with_counts placing.small_total cells.reads cells.cells bounds.with_bound bounds.rising bounds.falling bounds.with_claim printing.printed_size printing.with_summand printing.with_constant
+unfolding scanned table_of left_at is_implied elimination.canceled elimination.reduced elimination.outcome elimination.made_small elimination.paired elimination.made elimination.merged elimination.elimination exclusion.is_impossible exclusion.exclusion systems.pushed systems.substituted systems.eliminated systems.excluded systems.implied gcd.gcd gcd.gcd_of terms.held sums.stopped_sum sums.stopped_difference sums.stopped_product sums.number_at spans.low_number spans.high_number spans.low_row spans.high_row spans.unit_form ranges.coef_of ranges.of_two ranges.of_one ranges.of_none ranges.from_zero ranges.kept_span ranges.made_value_span ranges.pointer_span ranges.made_first_span ranges.made_second_span ranges.made_argument_span ranges.value_span ranges.argument_span extents.with_multiple extents.extent_form begun.begun_rows parts.value_rows parts.extended_terms choosing.are_equal choosing.meet_term choosing.chosen_of choosing.with_counts placing.small_total seats.placed seats.seated_number cells.reads cells.cells bounds.with_bound bounds.rising bounds.falling bounds.with_claim printing.printed_size printing.with_summand printing.with_constant
 cell_in_product = refl
 
 cell_in_x : after (cell_printed tiled table (0 ∷ 1 ∷ 2 ∷ []) sizes 1 (120 ∷ []) (at tiled_product column_in_x)) (λ c. Ok (expr.At c))
     ≡ Ok (expr.At (cell (120 ∷ []) (At (cell col (Var t3)))))
-unfolding scanned table_of left_at is_implied elimination.canceled elimination.reduced elimination.outcome elimination.made_small elimination.paired elimination.made elimination.merged elimination.elimination exclusion.is_impossible exclusion.exclusion systems.pushed systems.substituted systems.eliminated systems.excluded systems.implied gcd.gcd gcd.gcd_of terms.held sums.stopped_sum sums.stopped_difference sums.stopped_product sums.number_at spans.low_number spans.high_number spans.low_row spans.high_row spans.unit_form ranges.coef_of ranges.of_two ranges.of_one ranges.of_none ranges.from_zero ranges.kept_span ranges.made_value_span ranges.pointer_span ranges.made_first_span ranges.made_second_span ranges.made_argument_span ranges.value_span ranges.argument_span extents.with_multiple extents.extent_form begun.begun_rows parts.value_rows parts.extended_terms choosing.are_equal choosing.meet_term choosing.chosen_of choosing.with_counts placing.small_total cells.reads cells.cells bounds.with_bound bounds.rising bounds.falling bounds.with_claim printing.printed_size printing.with_summand printing.with_constant
+unfolding scanned table_of left_at is_implied elimination.canceled elimination.reduced elimination.outcome elimination.made_small elimination.paired elimination.made elimination.merged elimination.elimination exclusion.is_impossible exclusion.exclusion systems.pushed systems.substituted systems.eliminated systems.excluded systems.implied gcd.gcd gcd.gcd_of terms.held sums.stopped_sum sums.stopped_difference sums.stopped_product sums.number_at spans.low_number spans.high_number spans.low_row spans.high_row spans.unit_form ranges.coef_of ranges.of_two ranges.of_one ranges.of_none ranges.from_zero ranges.kept_span ranges.made_value_span ranges.pointer_span ranges.made_first_span ranges.made_second_span ranges.made_argument_span ranges.value_span ranges.argument_span extents.with_multiple extents.extent_form begun.begun_rows parts.value_rows parts.extended_terms choosing.are_equal choosing.meet_term choosing.chosen_of choosing.with_counts placing.small_total seats.placed seats.seated_number cells.reads cells.cells bounds.with_bound bounds.rising bounds.falling bounds.with_claim printing.printed_size printing.with_summand printing.with_constant
 cell_in_x = refl
 
 pub tiles_text : WorkedTiles

@@ -28,7 +28,7 @@ use Rattle.worked_acceptance.specs.Guarded.{guarded}
 use Rattle.worked_acceptance.proofs.Guarded.{guarded_accepted}
 use Rattle.scene_laws.specs.Examples.{begins, one_row, WorkedScene}
 use Rattle.scene_laws.specs.Inputs.{scene, IsAcceptedOn}
-use Rattle.scene_laws.proofs.Laws.{name_cells, is_scene}
+use Rattle.scene_laws.proofs.Laws.{name_cells, is_scene, fine_on_inputs}
 use Rattle.scene_laws.proofs.Ranged.{is_ranged}
 
 -- ---- the rules
@@ -102,4 +102,4 @@ second_begin : cell_seen (scene guarded one_row).sight first_of (line (pos 1)) â
 second_begin = simp (measure-Plus, measure-Var, measure-Const)
 
 pub worked_scene : WorkedScene
-worked_scene = (on, name_cells guarded (kernel_of guarded) one_row on, is_scene guarded (kernel_of guarded) one_row on, is_ranged guarded (kernel_of guarded) one_row on, second_begin)
+worked_scene = (on, name_cells guarded (kernel_of guarded) one_row on, is_scene guarded (kernel_of guarded) one_row on, fine_on_inputs guarded (kernel_of guarded) one_row on, is_ranged guarded (kernel_of guarded) one_row on, second_begin)

@@ -22,6 +22,7 @@ use Rattle.scene_laws.specs.Inputs.{scene, IsAcceptedOn, RulesNameCells, ValidIn
 use Rattle.scene_laws.proofs.Arrays.{Declared, declares, is_within}
 use Rattle.scene_laws.proofs.Cells.{visits-hold, IsDimmed, executor_dims}
 use Rattle.scene_laws.proofs.Matrices.{in_line, IsIndexArray, index_array}
+use Rattle.scene_laws.proofs.Ranged.{is_ranged}
 use Rattle.scene_laws.proofs.Rules.{affine_extents, HasRules, has_rules, scope_names}
 
 module _ (p : Program) (k : Kernel) (i : Input) (on : IsAcceptedOn p k i) where
@@ -75,14 +76,14 @@ pub name_cells : RulesNameCells
 name_cells p k i on = names p k i on
 
 pub is_scene : ValidInputIsScene
-is_scene p k i on met = record {
+is_scene p k i on = record {
   params = params_small p k i on p.params (on.valid).parameters;
   cells = cells_small p k i on;
   terms = λ a h. (
       let x = indexed p k i on a h in
       (x.form, x.at, λ rest z l u. (i.index a (line z), cell_there p k i on a x z l (subst (λ (v : ℤ). z <ℤ v) (x.worth rest) u))));
-  systems = met;
+  ranged = is_ranged p k i on;
 }
 
 pub fine_on_inputs : AcceptedIsFineOnInputs
-fine_on_inputs p k i on met = accepted_fine p k (scene p i) on.is_accepted (name_cells p k i on) (is_scene p k i on met)
+fine_on_inputs p k i on = accepted_fine p k (scene p i) on.is_accepted (name_cells p k i on) (is_scene p k i on)

@@ -11,7 +11,7 @@ use Rattle.c_tree.specs.declared.program.Matrix.{Matrix}
 use Rattle.c_tree.specs.declared.program.Program.{Program}
 use Rattle.c_judge.specs.Limits.{has_large, size_of}
 use Rattle.c_judge.specs.Signature.{extents_of}
-use Rattle.c_meaning.specs.Inputs.{Input, IsMatrix, IsParameter, HasExtents, array_named, declared_extents, extents_in, sight_of_parameters, three_of}
+use Rattle.c_meaning.specs.Inputs.{Input, IsMatrix, IsParameter, HasExtents, declared_extents, extents_in, sight_of_parameters, three_of}
 use Rattle.c_meaning.specs.Inputs as inputs
 use Rattle.c_meaning.specs.Names.{Name, line}
 use Rattle.c_meaning.specs.Value.{is_inside, measure, value_of, values_of}
@@ -28,7 +28,9 @@ use Rattle.nest_laws.specs.Acts.{three}
 use Rattle.acceptance_laws.specs.Formed.{AreApart}
 use Rattle.point_laws.specs.Ranges.{InSpan}
 use Rattle.run_laws.proofs.Matrices.{IsKept, kept, found, one_of, var-measured, next-measured, from_value, two_values}
-use Rattle.scene_laws.specs.Ranged.{seen, ValidInputIsRanged}
+use Rattle.acceptance_laws.specs.Systems.{seen}
+use Rattle.scene_laws.specs.Inputs.{scene}
+use Rattle.scene_laws.specs.Ranged.{ValidInputIsRanged}
 use Rattle.scene_laws.proofs.Arrays.{each_of, named_in, not_large}
 use Rattle.scene_laws.proofs.Extents.{extent_value}
 use Rattle.scene_laws.proofs.Matrices.{begins_within, has-in, in_line}
@@ -73,7 +75,7 @@ unfolding of_none
 of_none_value xs p = (let z = zeros (length xs) p in omega (arith, ints, z))
 
 -- from 0 to a parameter's value and a number more
-in_span : (p : Program) (i : Input) (a : Name) (z x : ℤ) → AreApart p.params → IsIn a p.params → pos 0 ≤ℤ x → x ≤ℤ (i.value a +ℤ z) → InSpan (seen p i) (to_one p.params a z) x
+in_span : (p : Program) (i : Input) (a : Name) (z x : ℤ) → AreApart p.params → IsIn a p.params → pos 0 ≤ℤ x → x ≤ℤ (i.value a +ℤ z) → InSpan (seen p (scene p i)) (to_one p.params a z) x
 unfolding from_zero
 in_span p i a z x h k low high =
     let l = of_none_value p.params (map i.value p.params) in
@@ -122,7 +124,7 @@ module _ (p : Program) (i : Input) (apart : AreApart p.params) (extents : AllByR
     to : at <ℤ long
     is : x ≡ i.index a (line at)
 
-  seen_at : (a : Name) (long : ℤ) (at : List ℤ) (x : ℤ) → declared_extents p i a ≡ long ∷ pos 1 ∷ pos 1 ∷ [] → (seen p i).cells a at ≡ Some x → SeenAt a long x
+  seen_at : (a : Name) (long : ℤ) (at : List ℤ) (x : ℤ) → declared_extents p i a ≡ long ∷ pos 1 ∷ pos 1 ∷ [] → (seen p (scene p i)).cells a at ≡ Some x → SeenAt a long x
   seen_at a long at x e h = by (is_inside (three at) (declared_extents p i a)) refl h
     where
       by : (b : Bool) → is_inside (three at) (declared_extents p i a) ≡ b → (if b then Some (i.index a (three at)) else None) ≡ Some x → SeenAt a long x
@@ -132,14 +134,14 @@ module _ (p : Program) (i : Input) (apart : AreApart p.params) (extents : AllByR
           let same : x ≡ i.index a (three at) = cc in
           record { at = l.0; from = l.2; to = l.3; is = same ∙ ap (i.index a) l.1 }
 
-  of_begins : (m : Matrix) → IsKept p m → IsMatrix m i → (at : List ℤ) (x : ℤ) → (seen p i).cells m.index at ≡ Some x → InSpan (seen p i) (to_one p.params m.count (pos 0)) x
+  of_begins : (m : Matrix) → IsKept p m → IsMatrix m i → (at : List ℤ) (x : ℤ) → (seen p (scene p i)).cells m.index at ≡ Some x → InSpan (seen p (scene p i)) (to_one p.params m.count (pos 0)) x
   of_begins m k v at x h =
       let c = seen_at m.index (i.value m.rows +ℤ pos 1) at x (line_extents m.index k.rows.extent (sum_of (plain (i.value m.rows)) (plain (pos 1))) k.rows.is (next-measured m.rows k.rows.extent (sight_of_parameters i) k.rows.tested)) h in
       let b = begins_within m i v c.at c.from c.to in
       let e = c.is in
       in_span p i m.count (pos 0) x apart (has-in p.params m.count k.count_is) (omega (arith, ints, b, e)) (omega (arith, ints, b, e))
 
-  of_columns : (m : Matrix) → IsKept p m → IsMatrix m i → (at : List ℤ) (x : ℤ) → (seen p i).cells m.col at ≡ Some x → InSpan (seen p i) (to_one p.params m.cols (negsuc 0)) x
+  of_columns : (m : Matrix) → IsKept p m → IsMatrix m i → (at : List ℤ) (x : ℤ) → (seen p (scene p i)).cells m.col at ≡ Some x → InSpan (seen p (scene p i)) (to_one p.params m.cols (negsuc 0)) x
   of_columns m k v at x h =
       let c = seen_at m.col (i.value m.count) at x (line_extents m.col k.entries.extent (plain (i.value m.count)) k.entries.is (var-measured m.count k.entries.extent (sight_of_parameters i) k.entries.tested)) h in
       let from = v.column_from c.at c.from c.to in
@@ -147,22 +149,22 @@ module _ (p : Program) (i : Input) (apart : AreApart p.params) (extents : AllByR
       let e = c.is in
       in_span p i m.cols (negsuc 0) x apart (has-in p.params m.cols k.cols_is) (omega (arith, ints, from, e)) (omega (arith, ints, to, e))
 
-  of_matrices : (ms : List Matrix) → AllByRecursion (IsKept p) ms → AllByRecursion (λ m. IsMatrix m i) ms → (a : Name) (at : List ℤ) (x : ℤ) (s : Span) → matrix_value_span p.params ms a ≡ Some s → (seen p i).cells a at ≡ Some x
-      → InSpan (seen p i) s x
+  of_matrices : (ms : List Matrix) → AllByRecursion (IsKept p) ms → AllByRecursion (λ m. IsMatrix m i) ms → (a : Name) (at : List ℤ) (x : ℤ) (s : Span) → matrix_value_span p.params ms a ≡ Some s → (seen p (scene p i)).cells a at ≡ Some x
+      → InSpan (seen p (scene p i)) s x
   of_matrices [] k v a at x s e h = absurd cc
   of_matrices (m ∷ ms) k v a at x s e h = by (bytes_eq a m.index) refl (bytes_eq a m.col) refl e (of_matrices ms k.1 v.1 a at x s)
     where
       by : (b : Bool) → bytes_eq a m.index ≡ b → (c : Bool) → bytes_eq a m.col ≡ c
           → cond b (Some (to_one p.params m.count (pos 0))) (cond c (Some (to_one p.params m.cols (negsuc 0))) (matrix_value_span p.params ms a)) ≡ Some s
-          → (matrix_value_span p.params ms a ≡ Some s → (seen p i).cells a at ≡ Some x → InSpan (seen p i) s x) → InSpan (seen p i) s x
+          → (matrix_value_span p.params ms a ≡ Some s → (seen p (scene p i)).cells a at ≡ Some x → InSpan (seen p (scene p i)) s x) → InSpan (seen p (scene p i)) s x
       by true t c u e more =
           let same : to_one p.params m.count (pos 0) ≡ s = cc in
           let name = (bytes_eq-Decides a m.index).0 t in
-          subst (λ (s : Span). InSpan (seen p i) s x) same (of_begins m k.0 v.0 at x (ap (λ (b : Name). (seen p i).cells b at) (sym name) ∙ h))
+          subst (λ (s : Span). InSpan (seen p (scene p i)) s x) same (of_begins m k.0 v.0 at x (ap (λ (b : Name). (seen p (scene p i)).cells b at) (sym name) ∙ h))
       by false t true u e more =
           let same : to_one p.params m.cols (negsuc 0) ≡ s = cc in
           let name = (bytes_eq-Decides a m.col).0 u in
-          subst (λ (s : Span). InSpan (seen p i) s x) same (of_columns m k.0 v.0 at x (ap (λ (b : Name). (seen p i).cells b at) (sym name) ∙ h))
+          subst (λ (s : Span). InSpan (seen p (scene p i)) s x) same (of_columns m k.0 v.0 at x (ap (λ (b : Name). (seen p (scene p i)).cells b at) (sym name) ∙ h))
       by false t false u e more = more e h
 
 -- ---- parameters

@@ -4,14 +4,15 @@ use Rattle.c_meaning.specs.Examples.{n}
 use Rattle.c_meaning.specs.Inputs.{Input}
 use Rattle.c_meaning.specs.Names.{Name, same_name, same_numbers, line}
 use Rattle.c_meaning.specs.Value.{cell_seen}
+use Rattle.nest_laws.specs.Trees.{tree_of, IsFine}
 use Rattle.acceptance.specs.Accepted.{kernel_of}
 use Rattle.acceptance_laws.specs.Safe.{IsNamed}
-use Rattle.acceptance_laws.specs.Scene.{SystemsAreMet, IsSceneOf}
+use Rattle.acceptance_laws.specs.Systems.{seen}
+use Rattle.acceptance_laws.specs.Scene.{IsSceneOf}
 use Rattle.worked_acceptance.specs.Examples.{m, z, first_of}
 use Rattle.worked_acceptance.specs.Guarded.{guarded}
 use Rattle.point_laws.specs.Ranges.{IsRanged}
 use Rattle.scene_laws.specs.Inputs.{scene, IsAcceptedOn}
-use Rattle.scene_laws.specs.Ranged.{seen}
 
 -- one row, two columns and two entries: the row begins at 0 and ends at 2, and its columns are 1 and 0
 abbrev pub values : Name → ℤ
@@ -27,8 +28,8 @@ abbrev pub one_row : Input
 one_row = record { value = values; index = λ a at. if same_name a first_of then begins at else columns at; cells = λ x. 0 }
 
 -- all premises are met: the source is accepted and keeps the rules, and the input is valid; so its names are in scope, its cells lie in
--- their arrays, the scene keeps its ranges, and cells keep those of systems; the row's second begin is read, and it is 2
+-- their arrays, the scene keeps its ranges, and nothing has a fault; the row's second begin is read, and it is 2
 abbrev pub WorkedScene : Type 0
 WorkedScene =
-    IsAcceptedOn guarded (kernel_of guarded) one_row × IsNamed guarded (scene guarded one_row) × (SystemsAreMet guarded (scene guarded one_row) → IsSceneOf guarded (scene guarded one_row))
-    × IsRanged guarded [] (seen guarded one_row) × (cell_seen (scene guarded one_row).sight first_of (line (pos 1)) ≡ Some (pos 2))
+    IsAcceptedOn guarded (kernel_of guarded) one_row × IsNamed guarded (scene guarded one_row) × IsSceneOf guarded (scene guarded one_row) × IsFine (tree_of guarded.executor (scene guarded one_row)) []
+    × IsRanged guarded [] (seen guarded (scene guarded one_row)) × (cell_seen (scene guarded one_row).sight first_of (line (pos 1)) ≡ Some (pos 2))

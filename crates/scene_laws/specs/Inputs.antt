@@ -10,7 +10,7 @@ use Rattle.nest_tree.specs.declared.kernel.Kernel.{Kernel}
 use Rattle.nest_laws.specs.Trees.{tree_of, IsFine}
 use Rattle.acceptance.specs.Accepted.{accepted}
 use Rattle.acceptance_laws.specs.Safe.{IsNamed}
-use Rattle.acceptance_laws.specs.Scene.{SystemsAreMet, IsSceneOf}
+use Rattle.acceptance_laws.specs.Scene.{IsSceneOf}
 
 -- what an executor sees where no inspector runs before it
 abbrev pub scene : Program → Input → Scene
@@ -27,10 +27,10 @@ pub record IsAcceptedOn (p : Program) (k : Kernel) (i : Input) : Type 0 where
 abbrev pub RulesNameCells : Type 0
 RulesNameCells = (p : Program) (k : Kernel) (i : Input) → IsAcceptedOn p k i → IsNamed p (scene p i)
 
--- parameters and cells of the matrices' arrays are at most 2^24, and each subscript below an extent finds its cell
+-- parameters and cells of the matrices' arrays are at most 2^24, each subscript below an extent finds its cell, and all arrays keep the ranges that systems say of them
 abbrev pub ValidInputIsScene : Type 0
-ValidInputIsScene = (p : Program) (k : Kernel) (i : Input) → IsAcceptedOn p k i → SystemsAreMet p (scene p i) → IsSceneOf p (scene p i)
+ValidInputIsScene = (p : Program) (k : Kernel) (i : Input) → IsAcceptedOn p k i → IsSceneOf p (scene p i)
 
--- so nothing in the executor has a fault, wherever the systems are met at points
+-- so nothing in the executor has a fault
 abbrev pub AcceptedIsFineOnInputs : Type 0
-AcceptedIsFineOnInputs = (p : Program) (k : Kernel) (i : Input) → IsAcceptedOn p k i → SystemsAreMet p (scene p i) → IsFine (tree_of p.executor (scene p i)) []
+AcceptedIsFineOnInputs = (p : Program) (k : Kernel) (i : Input) → IsAcceptedOn p k i → IsFine (tree_of p.executor (scene p i)) []

@@ -26,7 +26,7 @@ pub fn valid_input_is_ranged()
     ensures { ValidInputIsRanged }
 {}
 
-/// Nothing in an accepted executor has a fault on a valid input, wherever its systems are met at points.
+/// Nothing in an accepted executor has a fault on a valid input.
 pub fn accepted_is_fine_on_inputs()
     ensures { AcceptedIsFineOnInputs }
 {}

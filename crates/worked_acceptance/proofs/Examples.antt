@@ -29,6 +29,7 @@ use Rattle.int_rows.specs.declared.row.Aff.{Aff}
 use Rattle.source_limits.specs.declared.fault.Side.TheVariants.{Past}
 use Rattle.source_limits.specs.declared.fault.SourceFault.TheVariants.{Outside}
 use Rattle.nest_systems.specs.Extents.{Multiple, with_multiple, extent_form, plus_number, plus_parameter, has_name, and_then, index_layer, subscripts_layer, cell_layer}
+use Rattle.point_laws.specs.Seats.{seated_number, placed}
 use Rattle.acceptance.specs.Accepted.{refusal, statements, asked_in}
 use Rattle.c_tree.specs.declared.data.Expr.TheVariants.{At as Load, outs-At}
 use Rattle.c_tree.specs.declared.statement.How.TheVariants.{Write}
@@ -69,7 +70,7 @@ unfolding first
 copy_limits = simp (plain-Const, plain-Var, plains-One, cells-At, bracketed-At)
 
 copy_accesses : first (map (accesses (copy_of (Var i))) (asked (Var i))) ≡ None
-unfolding first begun_rows are_equal meet_term chosen_of with_counts value_rows extended_terms small_total number_at unit_form low_number high_number low_row high_row stopped_sum stopped_difference stopped_product pushed excluded exclusion is_impossible elimination merged made paired made_small outcome reduced canceled gcd gcd_of value_span of_none
+unfolding first begun_rows are_equal meet_term chosen_of with_counts value_rows extended_terms small_total placed seated_number number_at unit_form low_number high_number low_row high_row stopped_sum stopped_difference stopped_product pushed excluded exclusion is_impossible elimination merged made paired made_small outcome reduced canceled gcd gcd_of value_span of_none
 copy_accesses = simp (plain-Const, plain-Var, plains-One, cells-At, extent_n)
 
 copy_refusal : (e : Index) (l a : Judged) → first (map (limits (copy_of e)) (asked e)) ≡ l → first (map (accesses (copy_of e)) (asked e)) ≡ a → refusal (copy_of e) ≡ first (l ∷ a ∷ [])
@@ -87,7 +88,7 @@ unfolding first
 next_limits = simp (plain-Const, plain-Var, plain-Plus, plains-One, cells-At, bracketed-At)
 
 next_accesses : first (map (accesses (copy_of (Plus (Var i) (Const (pos 1))))) (asked (Plus (Var i) (Const (pos 1))))) ≡ Some (Outside 0 c Past)
-unfolding first begun_rows are_equal meet_term chosen_of with_counts value_rows extended_terms small_total number_at unit_form low_number high_number low_row high_row stopped_sum stopped_difference stopped_product pushed excluded exclusion is_impossible elimination merged made paired made_small outcome reduced canceled gcd gcd_of value_span of_none
+unfolding first begun_rows are_equal meet_term chosen_of with_counts value_rows extended_terms small_total placed seated_number number_at unit_form low_number high_number low_row high_row stopped_sum stopped_difference stopped_product pushed excluded exclusion is_impossible elimination merged made paired made_small outcome reduced canceled gcd gcd_of value_span of_none
 next_accesses = simp (plain-Const, plain-Var, plains-next, plains-name, cells-At, extent_n)
 
 pub copy_accepted : CopyIsAccepted
@@ -145,7 +146,7 @@ product_asked : asked_in product ≡ visits product_executor outside
 product_asked = simp (front-For, front-Assign)
 
 product_statements : statements product (visits product_executor outside) ≡ multiplying ∷ []
-unfolding first begun_rows are_equal meet_term chosen_of with_counts value_rows extended_terms small_total number_at unit_form low_number high_number low_row high_row stopped_sum stopped_difference stopped_product pushed excluded exclusion is_impossible elimination merged made paired made_small outcome reduced canceled gcd gcd_of value_span of_none of_one of_two coef_of from_zero
+unfolding first begun_rows are_equal meet_term chosen_of with_counts value_rows extended_terms small_total placed seated_number number_at unit_form low_number high_number low_row high_row stopped_sum stopped_difference stopped_product pushed excluded exclusion is_impossible elimination merged made paired made_small outcome reduced canceled gcd gcd_of value_span of_none of_one of_two coef_of from_zero
 product_statements = simp (plain-Const, plain-Var, plain-low, plain-high, plains-name, plains-column, cells-value, body-value)
 
 bracketed-Times : (x y : Expr) → bracketed (expr.Times x y) ≡ bracketed_layer (TheOpen.Times (bracketed x) (bracketed y))
@@ -156,11 +157,11 @@ unfolding first
 product_limits = simp (plain-Const, plain-Var, plain-Plus, plain-At, plains-One, cells-At, cells-Times, bracketed-At, bracketed-Times)
 
 outer_inside : accesses product (visit outside (i ∷ k ∷ []) (bounds i (Const (pos 0)) (Var n))) ≡ None
-unfolding first begun_rows are_equal meet_term chosen_of with_counts value_rows extended_terms small_total number_at unit_form low_number high_number low_row high_row stopped_sum stopped_difference stopped_product pushed excluded exclusion is_impossible elimination merged made paired made_small outcome reduced canceled gcd gcd_of value_span of_none of_one of_two coef_of from_zero
+unfolding first begun_rows are_equal meet_term chosen_of with_counts value_rows extended_terms small_total placed seated_number number_at unit_form low_number high_number low_row high_row stopped_sum stopped_difference stopped_product pushed excluded exclusion is_impossible elimination merged made paired made_small outcome reduced canceled gcd gcd_of value_span of_none of_one of_two coef_of from_zero
 outer_inside = simp (plain-Const, plain-Var)
 
 bounds_inside : accesses product (visit rows_at (k ∷ []) (bounds k low high)) ≡ None
-unfolding first begun_rows are_equal meet_term chosen_of with_counts value_rows extended_terms small_total number_at unit_form low_number high_number low_row high_row stopped_sum stopped_difference stopped_product pushed excluded exclusion is_impossible elimination merged made paired made_small outcome reduced canceled gcd gcd_of value_span of_none of_one of_two coef_of from_zero
+unfolding first begun_rows are_equal meet_term chosen_of with_counts value_rows extended_terms small_total placed seated_number number_at unit_form low_number high_number low_row high_row stopped_sum stopped_difference stopped_product pushed excluded exclusion is_impossible elimination merged made paired made_small outcome reduced canceled gcd gcd_of value_span of_none of_one of_two coef_of from_zero
 bounds_inside = simp (plain-Const, plain-Var, plain-low, plain-high, extent_name, extent_next)
 
 pub product_kept : ProductIsKept

@@ -34,12 +34,14 @@ use Rattle.int_rows.specs.Exclusion.{exclusion, is_impossible}
 use Rattle.int_rows.specs.Elimination.{elimination, merged, made, paired, made_small, outcome, reduced, canceled}
 use Rattle.int_rows.specs.Gcd.{gcd, gcd_of}
 use Rattle.nest_tree.specs.declared.body.Body.TheVariants as body
+use Rattle.point_laws.specs.Seats.{Seats, seated_number, placed, placed_row}
+use Rattle.point_laws.specs.Own.{own_places}
 use Rattle.executors.proofs.Equations.{front-For, front-If, front-Assign}
 use Rattle.acceptance.specs.Judged.{Judged, first}
 use Rattle.acceptance.specs.Brackets.{bracketed, bracketed_layer}
 use Rattle.acceptance.specs.Limits.{limits}
 use Rattle.acceptance.specs.Inside.{Sight, cell_inside, terms_inside, each_inside, inside, inside_extent, within_extent, vars_with, units, extent_at, sight_at, accesses}
-use Rattle.acceptance.specs.Systems.{Seats, instance_of, seats_of, places_of, placed_row, pushed_all, own_system}
+use Rattle.acceptance.specs.Systems.{instance_of, seats_of, pushed_all, own_system}
 use Rattle.acceptance.specs.Visits.{Visit, Spot, visit, visits, outside, into, past, next, bounds, test, assignment}
 use Rattle.acceptance.specs.Around.{cells_of}
 use Rattle.acceptance.specs.Forms.{Vars, form}
@@ -91,11 +93,11 @@ unfolding first
 rows_inside = simp (plain-Const, plain-Var)
 
 zero_inside : accesses guarded (visit in_rows [] (assignment (cell y (Var i)) Write (Number-Expr 0))) ≡ None
-unfolding first begun_rows are_equal meet_term chosen_of with_counts value_rows extended_terms small_total number_at unit_form low_number high_number low_row high_row stopped_sum stopped_difference stopped_product pushed excluded exclusion is_impossible elimination merged made paired made_small outcome reduced canceled gcd gcd_of value_span of_none of_one of_two coef_of from_zero
+unfolding first begun_rows are_equal meet_term chosen_of with_counts value_rows extended_terms small_total placed seated_number number_at unit_form low_number high_number low_row high_row stopped_sum stopped_difference stopped_product pushed excluded exclusion is_impossible elimination merged made paired made_small outcome reduced canceled gcd gcd_of value_span of_none of_one of_two coef_of from_zero
 zero_inside = simp (plain-Const, plain-Var, plains-name, cells-Const, extent_name, extent_next)
 
 entries_inside : accesses guarded (visit at_entries (k ∷ []) (bounds k low high)) ≡ None
-unfolding first begun_rows are_equal meet_term chosen_of with_counts value_rows extended_terms small_total number_at unit_form low_number high_number low_row high_row stopped_sum stopped_difference stopped_product pushed excluded exclusion is_impossible elimination merged made paired made_small outcome reduced canceled gcd gcd_of value_span of_none of_one of_two coef_of from_zero
+unfolding first begun_rows are_equal meet_term chosen_of with_counts value_rows extended_terms small_total placed seated_number number_at unit_form low_number high_number low_row high_row stopped_sum stopped_difference stopped_product pushed excluded exclusion is_impossible elimination merged made paired made_small outcome reduced canceled gcd gcd_of value_span of_none of_one of_two coef_of from_zero
 entries_inside = simp (plain-Const, plain-Var, plain-low, plain-high, extent_name, extent_next)
 
 test_inside : accesses guarded (visit in_entries [] (test behind_row)) ≡ None
@@ -148,7 +150,7 @@ abbrev system_by : Aff → List Row → Result Rows Excess
 system_by f front =
     let x : Instance = instance known_rows f in
     let s : Seats = seats_of guarded x in
-    pushed_all (record { vars = s.vars; rows = [] }) (front ++ (map (placed_row s) x.rows ++ (map (placed_row s) x.ranges ++ end_rows guarded [] s.vars (places_of guarded x).first_end (end_names x))))
+    pushed_all (record { vars = s.vars; rows = [] }) (front ++ (map (placed_row s) x.rows ++ (map (placed_row s) x.ranges ++ end_rows guarded [] s.vars (own_places guarded x).first_end (end_names x))))
 
 abbrev is_inside : Name → Aff → Aff → Judged
 is_inside array f extent = within_extent last_sight array (instance known_rows f) f extent (system_by f begun)
@@ -177,11 +179,11 @@ module _ (array x : Name) (extent : Aff) (there : extent_at guarded array 0 ≡ 
       ap (λ (es : List Expression). first (map (terms_inside last_sight) es ++ each_inside last_sight array 0 es)) (plains-name x) ∙ ap (λ (j : Judged). first (None ∷ j ∷ [])) (subscript_inside h)
 
 target_is : is_inside y (form (name i) both) (record { coefs = pos 1 ∷ pos 0 ∷ pos 0 ∷ []; constant = pos 0 }) ≡ None
-unfolding first begun_rows are_equal meet_term chosen_of with_counts value_rows extended_terms small_total number_at unit_form low_number high_number low_row high_row stopped_sum stopped_difference stopped_product pushed excluded exclusion is_impossible elimination merged made paired made_small outcome reduced canceled gcd gcd_of value_span of_none of_one of_two coef_of from_zero
+unfolding first begun_rows are_equal meet_term chosen_of with_counts value_rows extended_terms small_total placed seated_number number_at unit_form low_number high_number low_row high_row stopped_sum stopped_difference stopped_product pushed excluded exclusion is_impossible elimination merged made paired made_small outcome reduced canceled gcd gcd_of value_span of_none of_one of_two coef_of from_zero
 target_is = refl
 
 read_is : is_inside a (form (name k) both) (record { coefs = pos 0 ∷ pos 0 ∷ pos 1 ∷ []; constant = pos 0 }) ≡ None
-unfolding first begun_rows are_equal meet_term chosen_of with_counts value_rows extended_terms small_total number_at unit_form low_number high_number low_row high_row stopped_sum stopped_difference stopped_product pushed excluded exclusion is_impossible elimination merged made paired made_small outcome reduced canceled gcd gcd_of value_span of_none of_one of_two coef_of from_zero
+unfolding first begun_rows are_equal meet_term chosen_of with_counts value_rows extended_terms small_total placed seated_number number_at unit_form low_number high_number low_row high_row stopped_sum stopped_difference stopped_product pushed excluded exclusion is_impossible elimination merged made paired made_small outcome reduced canceled gcd gcd_of value_span of_none of_one of_two coef_of from_zero
 read_is = refl
 
 rows_extent : extent_at guarded y 0 ≡ Some (record { coefs = pos 1 ∷ pos 0 ∷ pos 0 ∷ []; constant = pos 0 })
@@ -193,11 +195,11 @@ unfolding stopped_sum of_none
 entries_extent = simp extent_name
 
 target_seats : (seats_of guarded (instance known_rows (form (name i) both))).vars ≡ 7
-unfolding first begun_rows are_equal meet_term chosen_of with_counts value_rows extended_terms small_total number_at unit_form low_number high_number low_row high_row stopped_sum stopped_difference stopped_product pushed excluded exclusion is_impossible elimination merged made paired made_small outcome reduced canceled gcd gcd_of value_span of_none of_one of_two coef_of from_zero
+unfolding first begun_rows are_equal meet_term chosen_of with_counts value_rows extended_terms small_total placed seated_number number_at unit_form low_number high_number low_row high_row stopped_sum stopped_difference stopped_product pushed excluded exclusion is_impossible elimination merged made paired made_small outcome reduced canceled gcd gcd_of value_span of_none of_one of_two coef_of from_zero
 target_seats = refl
 
 read_seats : (seats_of guarded (instance known_rows (form (name k) both))).vars ≡ 7
-unfolding first begun_rows are_equal meet_term chosen_of with_counts value_rows extended_terms small_total number_at unit_form low_number high_number low_row high_row stopped_sum stopped_difference stopped_product pushed excluded exclusion is_impossible elimination merged made paired made_small outcome reduced canceled gcd gcd_of value_span of_none of_one of_two coef_of from_zero
+unfolding first begun_rows are_equal meet_term chosen_of with_counts value_rows extended_terms small_total placed seated_number number_at unit_form low_number high_number low_row high_row stopped_sum stopped_difference stopped_product pushed excluded exclusion is_impossible elimination merged made paired made_small outcome reduced canceled gcd gcd_of value_span of_none of_one of_two coef_of from_zero
 read_seats = refl
 
 last_inside : accesses guarded last_visit ≡ None
