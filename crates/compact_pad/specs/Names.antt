@@ -1,5 +1,9 @@
 -- The names of the arrays that a padding makes.
-use Rattle.std.specs.Prelude.{ℕ, Bool, true, false, IsTrue, ⊤, IfSome, List, [], ◌∷◌, codes, Option, Some, None}
+use Rattle.std.specs.Prelude.{ℕ, ◌+◌, Bool, false, not, cond, ◌&&◌, nat_le, IsTrue, ⊤, IfSome, List, [], ◌∷◌, length, codes, Option, Some, None}
+use Rattle.std.specs.Prelude.{is_some}
+use Rattle.std.specs.List.{list_all, list_any}
+use Rattle.nest_tree.specs.declared.fault.ShapeWhy.{ShapeWhy}
+use Rattle.nest_tree.specs.declared.fault.ShapeWhy.TheVariants.{NameTaken, Limit}
 use Rattle.nest_tree.specs.declared.kernel.Kernel.{Kernel}
 use Rattle.inspectors.specs.declared.names.MarkNames.{MarkNames}
 use Rattle.inspectors.specs.declared.names.RowNames.{RowNames}
@@ -43,9 +47,17 @@ abbrev pub AreFree : Kernel → List (Option (List ℕ)) → Type 0
 AreFree k [] = ⊤
 AreFree k (o ∷ os) = IfSome o (λ n. IsTrue (is_free k n)) × AreFree k os
 
-abbrev pub FreeUnless : Bool → Kernel → List (Option (List ℕ)) → Type 0
-FreeUnless true k os = ⊤
-FreeUnless false k os = AreFree k os
+-- there is such a name, and no array of it can be made
+abbrev pub is_taken : Kernel → Option (List ℕ) → Bool
+is_taken k None = false
+is_taken k (Some n) = not (is_free k n)
+
+abbrev pub any_taken : Kernel → List (Option (List ℕ)) → Bool
+any_taken k os = list_any (is_taken k) os
+
+-- why no arrays of these names can be made: one of them is taken, or one is too long for a name or the kernel has no room for so many arrays
+abbrev pub shape_of : Kernel → List (Option (List ℕ)) → Option ShapeWhy
+shape_of k os = cond (any_taken k os) (Some NameTaken) (cond (list_all is_some os && nat_le (length k.made + length os) 384) None (Some Limit))
 
 abbrev pub mark_list : List ℕ → List (Option (List ℕ))
 mark_list p = made_name p (codes "_ptr") ∷ made_name p (codes "_val") ∷ made_name p (codes "_num") ∷ made_name p (codes "_mark") ∷ []
@@ -61,3 +73,7 @@ abbrev pub made_list : Layout → List ℕ → List (Option (List ℕ))
 made_list (Block rows cols swapped) p = kept_list p
 made_list Diag p = kept_list p
 made_list Rows p = row_list p
+
+-- why a layout can't have its names with that prefix
+abbrev pub name_shape : Kernel → Layout → List ℕ → Option ShapeWhy
+name_shape k layout p = shape_of k (made_list layout p)

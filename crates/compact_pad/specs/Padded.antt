@@ -9,7 +9,8 @@ use Rattle.pad_layouts.specs.declared.layout.Layout.TheVariants.{Block, Diag, Ro
 use Rattle.pad_layouts.specs.declared.plan.Plan.{Plan}
 use Rattle.compact_pad.specs.declared.kinds.Entered.{Entered}
 use Rattle.compact_pad.specs.Entering.{blocks, diagonals, rows}
-use Rattle.compact_pad.specs.Names.{kept_names, row_names}
+use Rattle.compact_pad.specs.Names.{kept_names, row_names, name_shape}
+use Rattle.compact_pad.specs.Tested.{tested_levels, FindNone}
 
 abbrev pub with_names : {A : Type 0} → (A → Entered) → Option A → Option Entered
 with_names f (Some b) = Some (f b)
@@ -39,8 +40,10 @@ pub record IsPut (k : Kernel) (s : ℕ) (p : Plan) (name : List ℕ) (e : Entere
   pub found : slice_get k.nests s ≡ Some nest
   pub is : entered k.head.params nest p name ≡ Some e
 
--- the padded statement stands in the place of statement s, its arrays behind the made ones, its lines behind the inspector's
+-- the padded statement stands in the place of statement s, its arrays behind the made ones, its lines behind the inspector's; their names could be made, and no test finds a dependence
 pub record IsPadded (old new : Kernel) (s : ℕ) (p : Plan) (name : List ℕ) : Type 0 where
   pub brought : Entered
   pub is : IsPut old s p name brought
   pub put : new ≡ put old s brought.nest brought.made brought.lines
+  pub named : name_shape old p.layout name ≡ None
+  pub tested : FindNone old s (tested_levels p.layout)

@@ -1,13 +1,15 @@
 // `compact_and_pad`.
-ghost use Rattle.std.specs.Prelude.{◌≡◌, ◌<◌, ◌≤◌, length, slice_get, IsTrue, IfOk, IfSome, OnOk, OnErr, Some};
+ghost use Rattle.std.specs.Prelude.{◌≡◌, ◌<◌, ◌≤◌, ◌∷◌, [], length, slice_get, IsTrue, IfOk, IfSome, OnOk, OnErr, Some, None};
 ghost use Rattle.nest_core.specs.Shapes.{vars_of, IsShaped, IsShapedNest};
+ghost use Rattle.depend_test.specs.Tested.{FindsAt, OnRefused};
 ghost use Rattle.pad_layouts.specs.Moved.{is_pick};
 ghost use Rattle.pad_layouts.specs.Plans.{plan_of, IsPlan, IsPlanAt};
-ghost use Rattle.compact_pad.specs.Answers.{AnswersFirst};
+ghost use Rattle.compact_pad.specs.Answers.{AnswersFirst, IsPadFault, Judges};
 ghost use Rattle.compact_pad.specs.Names as names;
 ghost use Rattle.compact_pad.specs.Names.{AreFree};
 ghost use Rattle.compact_pad.specs.Padded as spec;
 ghost use Rattle.compact_pad.specs.Padded.{IsPadded, IsPut};
+ghost use Rattle.compact_pad.specs.Tested.{tested_levels, FindNone, IsLevelFault, IsLevelsFault};
 
 use crate::kinds::{Entered, enter_blocks, enter_diagonals, enter_rows};
 use crate::names::{free_kept_names, free_row_names};
@@ -31,6 +33,7 @@ fn named_blocks(
     requires depth { length nest.now.levels ≡ 5 }
     ensures value { IfOk result (λ e. spec.named_blocks kernel.now.head.params nest.now plan.now sides name ≡ Some e) }
     ensures free { OnOk result (AreFree kernel.now (names.kept_list name)) }
+    ensures shape { Judges (names.shape_of kernel.now (names.kept_list name)) result }
     ensures shaped { IfOk result (λ e. IsShapedNest kernel.now.head e.nest) }
 {
     let names = free_kept_names(kernel, name)?;
@@ -49,6 +52,7 @@ fn named_diagonals(
     requires depth { length nest.now.levels ≡ 3 }
     ensures value { IfOk result (λ e. spec.named_diagonals kernel.now.head.params nest.now plan.now name ≡ Some e) }
     ensures free { OnOk result (AreFree kernel.now (names.kept_list name)) }
+    ensures shape { Judges (names.shape_of kernel.now (names.kept_list name)) result }
     ensures shaped { IfOk result (λ e. IsShapedNest kernel.now.head e.nest) }
 {
     let names = free_kept_names(kernel, name)?;
@@ -68,6 +72,7 @@ fn named_rows(
     requires column { IsTrue (is_pick (vars_of (length kernel.now.head.params) nest.now) plan.now.column) }
     ensures value { IfOk result (λ e. spec.named_rows kernel.now.head.params nest.now plan.now name ≡ Some e) }
     ensures free { OnOk result (AreFree kernel.now (names.row_list name)) }
+    ensures shape { Judges (names.shape_of kernel.now (names.row_list name)) result }
     ensures shaped { IfOk result (λ e. IsShapedNest kernel.now.head e.nest) }
 {
     let names = free_row_names(kernel, name)?;
@@ -86,6 +91,7 @@ fn entered(
     requires plan { IsPlan kernel.now.head nest.now plan.now }
     ensures value { IfOk result (λ e. spec.entered kernel.now.head.params nest.now plan.now name ≡ Some e) }
     ensures free { OnOk result (AreFree kernel.now (names.made_list plan.now.layout name)) }
+    ensures shape { Judges (names.name_shape kernel.now plan.now.layout name) result }
     ensures shaped { IfOk result (λ e. IsShapedNest kernel.now.head e.nest) }
 {
     match plan.layout {
@@ -116,12 +122,33 @@ fn test_level(
     requires shaped { IsShaped kernel.now }
     requires statement { statement < length kernel.now.nests }
     requires level { IfSome (slice_get kernel.now.nests statement) (λ n. (1 ≤ level) × (level ≤ length n.levels)) }
+    ensures tested { OnOk result (FindsAt kernel.now statement level None) }
+    ensures faults { OnRefused result (IsLevelFault kernel.now statement level) }
 {
     match first_compact_dependence(alloc, kernel, statement, level) {
         Ok(Some(dependence)) => Err(Stop::Refused(CommandFault::Depends(dependence))),
         Ok(None) => Ok(()),
         Err(stop) => Err(overflow(stop)),
     }
+}
+
+/// Tests one level, and then another.
+fn test_two(
+    alloc: Global,
+    kernel: &Kernel,
+    statement: usize,
+    first: usize,
+    second: usize,
+) -> Result<(), Stop<CommandFault>>
+    requires shaped { IsShaped kernel.now }
+    requires statement { statement < length kernel.now.nests }
+    requires first { IfSome (slice_get kernel.now.nests statement) (λ n. (1 ≤ first) × (first ≤ length n.levels)) }
+    requires second { IfSome (slice_get kernel.now.nests statement) (λ n. (1 ≤ second) × (second ≤ length n.levels)) }
+    ensures tested { OnOk result (FindNone kernel.now statement (first ∷ second ∷ [])) }
+    ensures faults { OnRefused result (IsLevelsFault kernel.now statement (first ∷ second ∷ [])) }
+{
+    test_level(alloc, kernel, statement, first)?;
+    test_level(alloc, kernel, statement, second)
 }
 
 /// Tests the compacted level, and then that of the entry's place, since the entries of a row and a column are put together.
@@ -134,16 +161,12 @@ fn test(
 ) -> Result<(), Stop<CommandFault>>
     requires shaped { IsShaped kernel.now }
     requires plan { IsPlanAt kernel.now statement plan.now }
+    ensures tested { OnOk result (FindNone kernel.now statement (tested_levels plan.now.layout)) }
+    ensures faults { OnRefused result (IsLevelsFault kernel.now statement (tested_levels plan.now.layout)) }
 {
     match plan.layout {
-        Layout::Block { .. } => {
-            test_level(alloc, kernel, statement, 2)?;
-            test_level(alloc, kernel, statement, 5)
-        }
-        Layout::Diag => {
-            test_level(alloc, kernel, statement, 1)?;
-            test_level(alloc, kernel, statement, 3)
-        }
+        Layout::Block { .. } => test_two(alloc, kernel, statement, 2, 5),
+        Layout::Diag => test_two(alloc, kernel, statement, 1, 3),
         Layout::Rows => Ok(()),
     }
 }
@@ -160,6 +183,8 @@ fn entered_at(
     requires plan { IsPlanAt kernel.now statement plan.now }
     ensures put { IfOk result (λ e. IsPut kernel.now statement plan.now name e) }
     ensures free { OnOk result (AreFree kernel.now (names.made_list plan.now.layout name)) }
+    ensures named { OnOk result (names.name_shape kernel.now plan.now.layout name ≡ None) }
+    ensures faults { OnRefused result (IsPadFault kernel.now statement plan.now name) }
     ensures shaped { IfOk result (λ e. IsShapedNest kernel.now.head e.nest) }
 {
     let nest = &kernel.nests.as_slice()[statement];
@@ -182,6 +207,7 @@ fn pad_by(
     requires plan { IsPlanAt kernel.old statement plan.now }
     ensures padded { OnOk result (IsPadded kernel.old kernel.new statement plan.now name) }
     ensures free { OnOk result (AreFree kernel.old (names.made_list plan.now.layout name)) }
+    ensures faults { OnRefused result (IsPadFault kernel.old statement plan.now name) }
     ensures shaped { OnOk result (IsShaped kernel.new) }
     ensures unchanged { OnErr result (kernel.new ≡ kernel.old) }
 {
@@ -202,7 +228,7 @@ pub fn compact_and_pad(
     name: Name,
 ) -> Result<(), Stop<CommandFault>>
     requires { IsShaped kernel.old }
-    ensures first { AnswersFirst (plan_of kernel.old statement level kind) result }
+    ensures first { AnswersFirst kernel.old statement name (plan_of kernel.old statement level kind) result }
     ensures padded { OnOk result (IfOk (plan_of kernel.old statement level kind) (λ p. IsPadded kernel.old kernel.new statement p name)) }
     ensures free { OnOk result (IfOk (plan_of kernel.old statement level kind) (λ p. AreFree kernel.old (names.made_list p.layout name))) }
     ensures shaped { OnOk result (IsShaped kernel.new) }

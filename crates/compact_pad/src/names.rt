@@ -1,8 +1,9 @@
 // The names of the arrays that a padding makes.
-ghost use Rattle.std.specs.Prelude.{◌≡◌, ◌∷◌, [], IfOk, OnOk, Some};
+ghost use Rattle.std.specs.Prelude.{◌≡◌, IfOk, OnOk, Some};
 ghost use Rattle.one_statement.specs.Made.{made_name};
 ghost use Rattle.compact_pad.specs.Names as spec;
-ghost use Rattle.compact_pad.specs.Names.{AreFree, FreeUnless};
+ghost use Rattle.compact_pad.specs.Answers.{Judges};
+ghost use Rattle.compact_pad.specs.Names.{AreFree};
 
 use chill_base::{Name, Stop};
 use inspectors::{MarkNames, RowNames};
@@ -18,7 +19,7 @@ pub struct KeptNames {
 
 /// Whether the name with these bytes behind it can't be made, since something else has it.
 fn is_taken(kernel: &Kernel, prefix: Name, suffix: &[u8]) -> bool
-    ensures { FreeUnless result kernel.now (made_name prefix suffix.now ∷ []) }
+    ensures { result ≡ spec.is_taken kernel.now (made_name prefix suffix.now) }
 {
     match made_name(prefix, suffix) {
         Some(name) => !is_free(kernel, name),
@@ -27,7 +28,7 @@ fn is_taken(kernel: &Kernel, prefix: Name, suffix: &[u8]) -> bool
 }
 
 fn is_mark_taken(kernel: &Kernel, prefix: Name) -> bool
-    ensures { FreeUnless result kernel.now (spec.mark_list prefix) }
+    ensures { result ≡ spec.any_taken kernel.now (spec.mark_list prefix) }
 {
     if is_taken(kernel, prefix, b"_ptr") {
         return true;
@@ -42,7 +43,7 @@ fn is_mark_taken(kernel: &Kernel, prefix: Name) -> bool
 }
 
 fn is_kept_taken(kernel: &Kernel, prefix: Name) -> bool
-    ensures { FreeUnless result kernel.now (spec.kept_list prefix) }
+    ensures { result ≡ spec.any_taken kernel.now (spec.kept_list prefix) }
 {
     if is_taken(kernel, prefix, b"_lay") {
         return true;
@@ -51,7 +52,7 @@ fn is_kept_taken(kernel: &Kernel, prefix: Name) -> bool
 }
 
 fn is_row_taken(kernel: &Kernel, prefix: Name) -> bool
-    ensures { FreeUnless result kernel.now (spec.row_list prefix) }
+    ensures { result ≡ spec.any_taken kernel.now (spec.row_list prefix) }
 {
     if is_taken(kernel, prefix, b"_wid") {
         return true;
@@ -98,26 +99,34 @@ fn row_names(prefix: Name) -> Option<RowNames>
 pub fn free_kept_names(kernel: &Kernel, prefix: Name) -> Result<KeptNames, Stop<ShapeWhy>>
     ensures names { IfOk result (λ b. spec.kept_names prefix ≡ Some b) }
     ensures free { OnOk result (AreFree kernel.now (spec.kept_list prefix)) }
+    ensures shape { Judges (spec.shape_of kernel.now (spec.kept_list prefix)) result }
 {
     if is_kept_taken(kernel, prefix) {
         return Err(Stop::Refused(ShapeWhy::NameTaken));
     }
-    match kept_names(prefix) {
-        Some(names) if has_room(kernel, 5) => Ok(names),
-        _ => Err(Stop::Refused(ShapeWhy::Limit)),
+    let Some(names) = kept_names(prefix) else {
+        return Err(Stop::Refused(ShapeWhy::Limit));
+    };
+    if !has_room(kernel, 5) {
+        return Err(Stop::Refused(ShapeWhy::Limit));
     }
+    Ok(names)
 }
 
 /// The names of padded rows, where they can be made.
 pub fn free_row_names(kernel: &Kernel, prefix: Name) -> Result<RowNames, Stop<ShapeWhy>>
     ensures names { IfOk result (λ b. spec.row_names prefix ≡ Some b) }
     ensures free { OnOk result (AreFree kernel.now (spec.row_list prefix)) }
+    ensures shape { Judges (spec.shape_of kernel.now (spec.row_list prefix)) result }
 {
     if is_row_taken(kernel, prefix) {
         return Err(Stop::Refused(ShapeWhy::NameTaken));
     }
-    match row_names(prefix) {
-        Some(names) if has_room(kernel, 3) => Ok(names),
-        _ => Err(Stop::Refused(ShapeWhy::Limit)),
+    let Some(names) = row_names(prefix) else {
+        return Err(Stop::Refused(ShapeWhy::Limit));
+    };
+    if !has_room(kernel, 3) {
+        return Err(Stop::Refused(ShapeWhy::Limit));
     }
+    Ok(names)
 }

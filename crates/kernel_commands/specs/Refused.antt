@@ -40,4 +40,4 @@ Answers old (Unroll s level factor) result = OnRefused result (IsUnrollFault old
 Answers old (Datacopy s level array copy) result = copied.AnswersFirst (copied.first_shape old s level array) result
 Answers old (MakeDense s level) result = dense.Refuses (judged_matrix old s level) result
 Answers old (Compact s level name) result = compacted.AnswersFirst (compacted.first_shape old s level) result
-Answers old (CompactAndPad s level kind name) result = padded.AnswersFirst (plan_of old s level kind) result
+Answers old (CompactAndPad s level kind name) result = padded.AnswersFirst old s name (plan_of old s level kind) result
