@@ -68,7 +68,7 @@ small-none (z ∷ zs) i e = by (is_small z) refl e (small-none zs (i + 1))
     by true f h more = rw f (more h)
     by false f h more = absurd cc
 
-pushed-small : (s : Rows) (r : Row) (new : Rows) → pushed s r ≡ Ok new → HasSmall r
+pub pushed-small : (s : Rows) (r : Row) (new : Rows) → pushed s r ≡ Ok new → HasSmall r
 unfolding pushed
 pushed-small s r new e = by (position_from (λ z. not (is_small z)) 0 (numbers r.form)) refl e
   where
@@ -76,7 +76,7 @@ pushed-small s r new e = by (position_from (λ z. not (is_small z)) 0 (numbers r
     by None f h = small-none (numbers r.form) 0 f
     by (Some i) f h = absurd cc
 
-pushed-rows : (rs : List Row) (s t : Rows) → pushed_all s rs ≡ Ok t → AllByRecursion HasSmall rs × (t.rows ≡ s.rows ++ rs)
+pub pushed-rows : (rs : List Row) (s t : Rows) → pushed_all s rs ≡ Ok t → AllByRecursion HasSmall rs × (t.rows ≡ s.rows ++ rs)
 pushed-rows [] s t e = let d : s ≡ t = cc in (tt, ap (λ (u : Rows). u.rows) (sym d) ∙ sym (append-nil s.rows))
 pushed-rows (r ∷ rs) s t e = by (pushed s r) refl e (λ u. pushed-rows rs u t)
   where

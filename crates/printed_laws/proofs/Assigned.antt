@@ -1,12 +1,10 @@
 -- The tests around an assignment: its rows name only levels around, so what they name is asked for first.
-use Rattle.std.proofs.Common.{◌≡◌, ℕ, true, false, List, [], refl, sym, ◌∙◌, arith, pos, length}
+use Rattle.std.proofs.Common.{◌≡◌, true, List, [], arith, length}
 use Rattle.std.proofs.lemmas.Bool.{and_parts}
-use Rattle.nest_tree.specs.Lists.{IsIn}
 use Rattle.nest_tree.specs.Loops.{Levels}
 use Rattle.nest_tree.specs.Terms.{Input}
 use Rattle.scan_forms.specs.declared.claim.Claim.{Claim}
 use Rattle.scan_forms.specs.declared.reads.Read.{Read}
-use Rattle.scan_forms.specs.Numbers.{are_zero}
 use Rattle.scanning.specs.Named.{named}
 use Rattle.scanning.specs.Parts.{sizes_of}
 use Rattle.scanning_laws.specs.Naming.{IsTable}

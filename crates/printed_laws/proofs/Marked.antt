@@ -1,5 +1,5 @@
 -- The reads that a form names, where those that it holds name only levels around: so do the reads in their arguments.
-use Rattle.std.proofs.Common.{◌≡◌, ◌⊎◌, inl, inr, ℕ, zero, suc, ◌+◌, ◌<◌, List, [], ◌∷◌, ◌++◌, length, refl, sym, ◌∙◌, ap, subst, arith, ℤ, pos, negsuc, nat_eq, Bool, true, false, cond, length-append}
+use Rattle.std.proofs.Common.{◌≡◌, ◌⊎◌, inl, inr, ℕ, zero, suc, ◌+◌, ◌<◌, List, [], ◌∷◌, ◌++◌, length, refl, sym, ◌∙◌, subst, arith, ℤ, pos, negsuc, nat_eq, Bool, true, false, cond, length-append}
 use Rattle.std.specs.Prelude.{slice_get}
 use Rattle.std.specs.List.{list_all, list_any, fold, AllByRecursion}
 use Rattle.std.proofs.lemmas.Int.{ints}
@@ -9,7 +9,7 @@ use Rattle.nest_tree.specs.Loops.{Levels}
 use Rattle.scan_forms.specs.declared.affine.Affine.{Affine}
 use Rattle.scan_forms.specs.declared.bounds.Bound.{Bound}
 use Rattle.scan_forms.specs.declared.reads.Read.{Read}
-use Rattle.scan_forms.specs.Numbers.{number_at, are_zero}
+use Rattle.scan_forms.specs.Numbers.{number_at}
 use Rattle.loop_scan.specs.declared.sides.Sides.{Sides}
 use Rattle.scanning.specs.Named.{named_below, named, arguments, with_new}
 use Rattle.scanning.specs.Reads.{if_held}

@@ -44,7 +44,7 @@ use Rattle.printed_laws.specs.Between.{is_small, IsRow, AreBounds, IsBetween, Ho
 use Rattle.printed_laws.specs.Opened.{Readable, Holding, Found, IsLevelRow, AreSides, RestsOn, OpenedLoopsDo}
 use Rattle.printed_laws.proofs.Parts.{ok_same}
 use Rattle.printed_laws.proofs.Forms.{marked, where_marked, held_or_not}
-use Rattle.printed_laws.proofs.Marked.{HoldsMarked, BoundsHoldMarked, sides_in_order, rest_in_order}
+use Rattle.printed_laws.proofs.Marked.{BoundsHoldMarked, sides_in_order, rest_in_order}
 use Rattle.printed_laws.proofs.Cells.{both}
 use Rattle.printed_laws.proofs.Bounds.{tests_say}
 use Rattle.printed_laws.proofs.Heads.{heads_have_values}

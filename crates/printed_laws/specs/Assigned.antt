@@ -1,5 +1,5 @@
 -- What the tests around an assignment do that a scan placed.
-use Rattle.std.specs.Prelude.{◌≡◌, ℕ, ◌≤◌, Bool, true, IsTrue, List, length, Ok}
+use Rattle.std.specs.Prelude.{◌≡◌, ◌≤◌, Bool, true, List, length, Ok}
 use Rattle.std.specs.List.{filter}
 use Rattle.c_meaning.specs.Value.{Sight, all_hold}
 use Rattle.nest_tree.specs.declared.kernel.Kernel.{Kernel}
