@@ -1,3 +1,4 @@
 pub mod Figures
 pub mod Work
+pub mod Recipe
 pub mod Examples

@@ -5,7 +5,7 @@ use Rattle.c_meaning.specs.Memory.{Memory}
 use Rattle.c_tree.specs.declared.program.Program.{Program}
 use Rattle.csr_data.specs.Lines.{Given}
 use Rattle.csr_data.specs.Matrices.{says}
-use Rattle.emission.specs.Emitting.{Emits, EmitCause}
+use Rattle.emission.specs.Emitting.{Emits, Denies}
 use Rattle.outcomes.specs.declared.outcome.Refusal.{Refusal}
 use Rattle.outcomes.specs.declared.outcome.Refusal.TheVariants.{FileLong}
 use Rattle.outcomes.specs.Refusing.{ProgramCause}
@@ -57,5 +57,6 @@ pub record WrittenDenied (recipe source : List ℕ) (r : Refusal) : Type 0 where
   pub input : List ℕ
   pub cause : ProgramCause (program_of written) r ⊎ (IsTooLong r ⊎ RunDenies written input r)
 
+-- for a recipe that is read: why the source is refused, or what was written for it
 abbrev pub WorkCause : (recipe source : List ℕ) → Refusal → Type 0
-WorkCause recipe source r = EmitCause recipe source r ⊎ WrittenDenied recipe source r
+WorkCause recipe source r = Denies recipe source r ⊎ WrittenDenied recipe source r

@@ -4,6 +4,7 @@ ghost use Rattle.c_grammar.specs.Program.{IsProgram};
 ghost use Rattle.c_judge.specs.Rules.{KeepsRules};
 ghost use Rattle.c_loops.specs.Programs.{program_of};
 ghost use Rattle.c_tokens.specs.Pieces.{tokens_of};
+ghost use Rattle.emission.specs.Emitting.{Emits};
 ghost use Rattle.outcomes.specs.Refusing.{IfRefused, ProgramCause};
 ghost use Rattle.text_runs.specs.Running.{RunDenies};
 ghost use Rattle.measured_run.specs.Work.{Measured, RunsTo, WorkCause};
@@ -32,6 +33,14 @@ fn made(alloc: Global, seed: u32, size: u32) -> Result<Text, NoMemory>
 {
     let values = generate(alloc, seed, size)?;
     print_values(alloc, &values)
+}
+
+/// The program that the block recipe makes of the source. The recipe is no cause of a refusal.
+fn emitted(alloc: Global) -> Result<Text, Stop<Refusal>>
+    ensures ok { IfOk result (Emits RECIPE.now SOURCE.now) }
+    ensures refused { IfErr result (IfRefused (WorkCause RECIPE.now SOURCE.now)) }
+{
+    emit(alloc, RECIPE, SOURCE)
 }
 
 /// Runs the program of a text on a data text, and tells of the data and of the arrays that it leaves.
@@ -74,7 +83,7 @@ pub fn work(alloc: Global, seed: u32, size: u32) -> Result<Text, Stop<Refusal>>
     ensures ok { IfOk result (Measured RECIPE.now SOURCE.now size) }
     ensures refused { IfErr result (IfRefused (WorkCause RECIPE.now SOURCE.now)) }
 {
-    let written = emit(alloc, RECIPE, SOURCE)?;
+    let written = emitted(alloc)?;
     let input = made(alloc, seed, size)?;
     if input.len() > FILE_LIMIT {
         return Err(Stop::Refused(Refusal::FileLong { file: 2 }));
