@@ -38,6 +38,6 @@ Answers old (Fuse a b level) result = Refuses (IsTestFault old) (fuse_moves old 
 Answers old (Distribute s level) result = Refuses (IsTestFault old) (distribute_moves old s level) result
 Answers old (Unroll s level factor) result = OnRefused result (IsUnrollFault old (is_innermost level (slice_get old.nests s)) (unrolled old s level factor))
 Answers old (Datacopy s level array copy) result = copied.AnswersFirst (copied.first_shape old s level array) result
-Answers old (MakeDense s level) result = dense.Refuses (judged_matrix old s level) result
+Answers old (MakeDense s level) result = dense.Refuses (dense.IsDenseFault old s level) (judged_matrix old s level) result
 Answers old (Compact s level name) result = compacted.AnswersFirst (compacted.first_shape old s level) result
 Answers old (CompactAndPad s level kind name) result = padded.AnswersFirst old s name (plan_of old s level kind) result

@@ -1,6 +1,6 @@
 -- The moves that give one statement a piece that fits it, fit the kernel; and the statement that a judgement speaks of.
 use Rattle.std.proofs.Common.{◌≡◌, ℕ, zero, suc, arith, ◌<◌, ◌≤◌, Bool, true, false, cond, nat_le, List, [], ◌∷◌, ◌++◌, length, take, drop, get_or, refl, sym, ◌∙◌, add-one, inl, inr, le-leb, leb-true}
-use Rattle.std.specs.Prelude.{Option, Some, None, Result, Ok, Err, IfOk, slice_get}
+use Rattle.std.specs.Prelude.{Option, Some, None, Result, Ok, Err, IfOk, OnOk, slice_get}
 use Rattle.std.specs.List.{AllByRecursion}
 use Rattle.std.proofs.lemmas.Bool.{cases_lt}
 use Rattle.std.proofs.lemmas.List.FromFn.{length-map-range_with_len}
@@ -8,14 +8,16 @@ use Rattle.c_tree.specs.declared.program.Matrix.{Matrix}
 use Rattle.c_tree.specs.declared.program.Program.{Program}
 use Rattle.nest_tree.specs.declared.kernel.Kernel.{Kernel}
 use Rattle.nest_tree.specs.declared.kernel.Nest.{Nest}
+use Rattle.nest_tree.specs.declared.moves.Moves.{Moves}
 use Rattle.nest_tree.specs.declared.moves.Piece.{Piece}
 use Rattle.nest_core.specs.Shapes.{IsShapedNest, FitsNest, AllFit, IsShaped, Fits, count_pieces}
 use Rattle.nest_core.proofs.Kept.{after_ok, and}
+use Rattle.depend_test.specs.Tested.{Finds}
 use Rattle.affine_moves.specs.Change.{is_level}
 use Rattle.affine_moves.specs.Moves.{only}
 use Rattle.affine_moves.proofs.Standing.{piece_at-fits}
 use Rattle.one_statement.specs.Alone.{any_shares}
-use Rattle.make_dense.specs.Dense.{stays, pieces_with, moves_with, dense_nest, IsMadeOf}
+use Rattle.make_dense.specs.Dense.{stays, pieces_with, moves_with, dense_moves, dense_nest, IsMadeOf}
 use Rattle.make_dense.specs.Judge.{matrix_at, has_place, matrix_for, judged_matrix, IsJudged}
 
 pub found-below : {A : Type 0} (xs : List A) (i : ℕ) (x : A) → slice_get xs i ≡ Some x → i < length xs
@@ -67,6 +69,10 @@ pub moves-made : (k : Kernel) (s : ℕ) (n : Nest) (p : Piece) (ns : List Nest) 
     → IsShaped k → slice_get k.nests s ≡ Some n → FitsNest (length k.head.params) n p → Fits k (record { pieces = pieces; applies = applies })
 moves-made k s n p ns pieces applies e d a shaped f g = rw (d, a, e) (moves-fit k s n p shaped f g)
 
+pub moves-are : (k : Kernel) (s : ℕ) (p : Piece) (ns : List Nest) (pieces : List (List Piece)) (applies : List Bool) → ns ≡ k.nests → pieces ≡ pieces_with (length k.head.params) ns s p → applies ≡ only s (length ns)
+    → record { pieces = pieces; applies = applies } ≡ moves_with k s p
+moves-are k s p ns pieces applies e d a = rw (d, a, e) refl
+
 -- ---- judgements
 cond-ok : {A B : Type 0} (b : Bool) (r : Result A B) (e : B) (x : A) → cond b r (Err e) ≡ Ok x → b ≡ true
 cond-ok true r e x h = refl
@@ -104,6 +110,7 @@ judged-at k s level m x shaped e d =
       few = j.4;
     })
 
-pub made-of : {E : Type 0} (k : Kernel) (s level : ℕ) (m : Matrix) (n : Nest) (r : Result Nest E) → IsJudged k s level n → IfOk r (λ x. dense_nest k.head.params n level m ≡ Ok x) → IfOk r (λ x. IsMadeOf k s level m x)
-made-of k s level m n (Ok x) j e = record { nest = n; found = j.found; made = e }
-made-of k s level m n (Err y) j e = tt
+pub made-of : {E : Type 0} (k : Kernel) (s level : ℕ) (m : Matrix) (n : Nest) (r : Result Nest E) → IsJudged k s level n → IfOk r (λ x. dense_nest k.head.params n level m ≡ Ok x) → OnOk r (Finds k (dense_moves k s n level m) None)
+    → IfOk r (λ x. IsMadeOf k s level m x)
+made-of k s level m n (Ok x) j e t = record { nest = n; found = j.found; made = e; tested = t }
+made-of k s level m n (Err y) j e t = tt

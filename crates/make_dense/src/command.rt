@@ -1,6 +1,7 @@
 // `make_dense`: a level for the columns before one that goes over the entries of a row.
-ghost use Rattle.std.specs.Prelude.{◌≡◌, Ok, IfOk, OnOk, OnErr};
+ghost use Rattle.std.specs.Prelude.{◌≡◌, Ok, None, IfOk, OnOk, OnErr};
 ghost use Rattle.nest_core.specs.Shapes.{IsShapedNest, IsShaped};
+ghost use Rattle.depend_test.specs.Tested.{Finds, OnRefused};
 ghost use Rattle.make_dense.specs.Judge.{judged_matrix, IsJudged};
 ghost use Rattle.make_dense.specs.Dense.{dense_nest};
 ghost use Rattle.make_dense.specs.Dense as spec;
@@ -27,6 +28,8 @@ fn test_order(
 ) -> Result<(), Stop<CommandFault>>
     requires shaped { IsShaped kernel.now }
     requires judged { IsJudged kernel.now statement level nest.now }
+    ensures tested { OnOk result (Finds kernel.now (spec.dense_moves kernel.now statement nest.now level matrix.now) None) }
+    ensures faults { OnRefused result (spec.IsOrderFault kernel.now statement nest.now level matrix.now) }
 {
     let piece = dense_piece(alloc, &kernel.head, nest, level, matrix)?;
     let moves = moves_with(alloc, kernel, statement, nest, piece)?;
@@ -49,6 +52,8 @@ fn tested_nest(
     requires shaped { IsShaped kernel.now }
     requires judged { IsJudged kernel.now statement level nest.now }
     ensures dense { IfOk result (λ n. dense_nest kernel.now.head.params nest.now level matrix.now ≡ Ok n) }
+    ensures tested { OnOk result (Finds kernel.now (spec.dense_moves kernel.now statement nest.now level matrix.now) None) }
+    ensures faults { OnRefused result (spec.IsNestFault kernel.now statement nest.now level matrix.now) }
     ensures shaped { IfOk result (λ n. IsShapedNest kernel.now.head n) }
 {
     match dense_nest(alloc, &kernel.head, nest, level, matrix) {
@@ -71,6 +76,7 @@ fn tested_at(
     requires shaped { IsShaped kernel.now }
     requires judged { judged_matrix kernel.now statement level ≡ Ok matrix.now }
     ensures dense { IfOk result (λ n. spec.IsMadeOf kernel.now statement level matrix.now n) }
+    ensures faults { OnRefused result (spec.IsDenseFault kernel.now statement level matrix.now) }
     ensures shaped { IfOk result (λ n. IsShapedNest kernel.now.head n) }
 {
     let nest = &kernel.nests.as_slice()[statement];
@@ -90,6 +96,7 @@ fn put_dense(
     ensures shaped { OnOk result (IsShaped kernel.new) }
     ensures unchanged { OnErr result (kernel.new ≡ kernel.old) }
     ensures dense { OnOk result (spec.IsMadeDense kernel.old kernel.new statement level matrix.now) }
+    ensures faults { OnRefused result (spec.IsDenseFault kernel.old statement level matrix.now) }
 {
     let dense = tested_at(alloc, kernel, statement, level, matrix)?;
     put_statement(
@@ -115,7 +122,7 @@ pub fn make_dense(
     requires { IsShaped kernel.old }
     ensures shaped { OnOk result (IsShaped kernel.new) }
     ensures unchanged { OnErr result (kernel.new ≡ kernel.old) }
-    ensures shape { spec.Refuses (judged_matrix kernel.old statement level) result }
+    ensures shape { spec.Refuses (spec.IsDenseFault kernel.old statement level) (judged_matrix kernel.old statement level) result }
     ensures dense { OnOk result (spec.IsDense kernel.old kernel.new statement level (judged_matrix kernel.old statement level)) }
 {
     match judged_matrix(alloc, kernel, statement, level) {

@@ -73,7 +73,8 @@ pub fn moves_with(
     requires shaped { IsShaped kernel.now }
     requires found { slice_get kernel.now.nests statement ≡ Some nest.now }
     requires fits { FitsNest (length kernel.now.head.params) nest.now piece }
-    ensures { IfOk result (λ m. Fits kernel.now m) }
+    ensures fits { IfOk result (λ m. Fits kernel.now m) }
+    ensures value { IfOk result (λ m. m ≡ spec.moves_with kernel.now statement piece) }
 {
     let nests = kernel.nests.as_slice();
     Ok(Moves {
