@@ -6,7 +6,7 @@ ghost use Rattle.c_meaning.specs.Value.{is_inside};
 ghost use Rattle.c_meaning.specs.Run.{is_within, grown};
 ghost use Rattle.csr_data.specs.Values.{array_of};
 ghost use Rattle.c_run.specs.Arrays.{table_of, number_in, shape_in, extents_of_rows, extents_of, cell_at, seen_in, place_in, all_places, places_in, grown_shape};
-ghost use Rattle.c_run.specs.Printing.{cells_in};
+ghost use Rattle.c_run.specs.Printing.{rows_in};
 
 use c_tree::Kind;
 use chill_base::{Name, NoMemory};
@@ -89,11 +89,11 @@ impl Arrays {
     }
 
     /// The cells of an array that is there.
-    pub(crate) fn cells(&self, name: &Name) -> &Cells
+    pub(crate) fn grid(&self, name: &Name) -> &Grid
         requires { IsTrue (is_some (table_of (tables_of self.now) name.now)) }
-        ensures { result.now ≡ cells_in (table_of (tables_of self.now) name.now) }
+        ensures { result.now ≡ rows_in (table_of (tables_of self.now) name.now) }
     {
-        find_table(self.tables.as_slice(), name).cells.cells()
+        &find_table(self.tables.as_slice(), name).cells
     }
 
     /// The cells of an array. None exactly where there is no array of that name.

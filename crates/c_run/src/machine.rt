@@ -6,7 +6,7 @@ ghost use Rattle.c_walk.specs.State.{memory_in};
 ghost use Rattle.csr_data.specs.Values.{array_of};
 ghost use Rattle.c_run.specs.Ready.{CanInspect, CanExecute, HasArrays, scope_behind};
 ghost use Rattle.c_run.specs.Store.{state_of_store, scope_of_store, tables_of, prepared};
-ghost use Rattle.c_run.specs.Printing.{arrays_text};
+ghost use Rattle.c_run.specs.Printing.{arrays_text, AreWhole};
 ghost use Rattle.c_run.specs.Sections.{Ended, InspectorEnds, TraceEnds, inspector_run, executor_run, executor_lines};
 ghost use Rattle.c_run.specs.Stages.{IsInspected};
 ghost use Rattle.c_run.specs.declared.machine.Stage.TheVariants.{Prepared, Inspected};
@@ -202,10 +202,11 @@ impl<'a> Machine<'a> {
         self.store.arrays.find(name)
     }
 
-    /// Appends a line for each array of the signature, with its cells as they are now.
+    /// Appends a line for each array of the signature, with all its cells as they are now.
     pub fn push_arrays(&self, text: &mut Vec<u8>) -> Result<(), NoMemory>
         requires { self.now.stage ≡ Stage.Inspected }
-        ensures { OnOk result (text.new.items ≡ text.old.items ++ arrays_text (tables_of self.now.store.arrays) self.now.program.now.arrays) }
+        ensures text { OnOk result (text.new.items ≡ text.old.items ++ arrays_text (tables_of self.now.store.arrays) self.now.program.now.arrays) }
+        ensures whole { OnOk result (AreWhole (tables_of self.now.store.arrays) self.now.program.now.arrays) }
     {
         push_all(text, &self.store, self.program)
     }
@@ -214,10 +215,11 @@ impl<'a> Machine<'a> {
 // Appends a line for each array of the signature.
 fn push_all(text: &mut Vec<u8>, store: &Store, program: &Program) -> Result<(), NoMemory>
     requires { HasArrays program.now (scope_of_store store.now) }
-    ensures { OnOk result (text.new.items ≡ text.old.items ++ arrays_text (tables_of store.now.arrays) program.now.arrays) }
+    ensures text { OnOk result (text.new.items ≡ text.old.items ++ arrays_text (tables_of store.now.arrays) program.now.arrays) }
+    ensures whole { OnOk result (AreWhole (tables_of store.now.arrays) program.now.arrays) }
 {
     for array in program.arrays.as_slice() {
-        push_array(text, &array.name, store.arrays.cells(&array.name))?;
+        push_array(text, &array.name, store.arrays.grid(&array.name))?;
     }
     Ok(())
 }

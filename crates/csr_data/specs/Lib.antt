@@ -11,3 +11,4 @@ pub mod Wanted
 pub mod Reading
 pub mod Divisors
 pub mod Printed
+pub mod Whole

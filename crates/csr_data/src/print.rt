@@ -3,11 +3,12 @@ ghost use Rattle.std.specs.Prelude.{◌≡◌, ◌++◌, OnOk, IfOk};
 ghost use Rattle.std.specs.List.{flat_map};
 ghost use Rattle.csr_data.specs.Printed.{number_text, line_text, parameter_text, parameters_text, table_text, data_text};
 ghost use Rattle.csr_data.specs.Values.{params_of, arrays_of};
+ghost use Rattle.csr_data.specs.Whole.{AreNumbers, IsWhole};
 
 use crate::values::{Parameter, Table, Values};
 use chill_base::{List, Name, NoMemory, Text};
 use itoa::Buffer;
-use raw_store::Cells;
+use raw_store::{Cells, Grid};
 use std::alloc::Global;
 
 fn push_number(text: &mut Vec<u8>, number: u64) -> Result<(), NoMemory>
@@ -20,7 +21,8 @@ fn push_number(text: &mut Vec<u8>, number: u64) -> Result<(), NoMemory>
 }
 
 fn push_numbers(text: &mut Vec<u8>, cells: &Cells) -> Result<(), NoMemory>
-    ensures { OnOk result (text.new.items ≡ text.old.items ++ flat_map number_text cells.now) }
+    ensures text { OnOk result (text.new.items ≡ text.old.items ++ flat_map number_text cells.now) }
+    ensures numbers { OnOk result (AreNumbers cells.now) }
 {
     for at in 0..cells.len() {
         push_number(text, cells.get(at))?;
@@ -28,12 +30,14 @@ fn push_numbers(text: &mut Vec<u8>, cells: &Cells) -> Result<(), NoMemory>
     Ok(())
 }
 
-/// Appends the line of an array.
-pub fn push_array(text: &mut Vec<u8>, name: &Name, cells: &Cells) -> Result<(), NoMemory>
-    ensures { OnOk result (text.new.items ≡ text.old.items ++ line_text name.now cells.now) }
+/// Appends the line of an array. What it appends are all cells of the array, each below 2^64.
+pub fn push_array(text: &mut Vec<u8>, name: &Name, grid: &Grid) -> Result<(), NoMemory>
+    ensures text { OnOk result (text.new.items ≡ text.old.items ++ line_text name.now grid.now.cells) }
+    ensures whole { OnOk result (IsWhole grid.now) }
 {
+    let _extents = grid.extents();
     text.extend_from_slice(name.bytes())?;
-    push_numbers(text, cells)?;
+    push_numbers(text, grid.cells())?;
     text.push(b'\n')?;
     Ok(())
 }
@@ -62,7 +66,7 @@ fn push_arrays(text: &mut Vec<u8>, arrays: &[Table]) -> Result<(), NoMemory>
     ensures { OnOk result (text.new.items ≡ text.old.items ++ flat_map table_text arrays.now) }
 {
     for array in arrays {
-        push_array(text, &array.name, array.cells.cells())?;
+        push_array(text, &array.name, &array.cells)?;
     }
     Ok(())
 }

@@ -3,8 +3,8 @@ use Rattle.c_run.specs.Store.{scope_of_store, tables_of}
 use Rattle.c_run.proofs.Signatures.{is_table, at_index}
 use Rattle.c_run.proofs.machine.push_all.Goals as goal
 
-pub cells-requires : goal.cells-requires
-cells-requires c =
+pub grid-requires : goal.grid-requires
+grid-requires c =
     let s = c.args.store.now in
     let items = c.as_slice-array-items.ensures in
     is_table (tables_of s.arrays) (scope_of_store s) c.array-item.result.name refl refl
