@@ -1,5 +1,5 @@
 -- The block recipe is read, so that it is no cause of a refusal.
-use Rattle.std.proofs.Common.{◌≡◌, ◌⊎◌, List, ℕ, Ok, Err, IfErr, refl, subst, inl, inr}
+use Rattle.std.proofs.Common.{◌≡◌, List, ℕ, Ok, Err, IfErr, refl, subst, inl, inr}
 use Rattle.std.specs.Prelude.{Result}
 use Rattle.chill_base.specs.declared.faults.Stop.{Stop}
 use Rattle.chill_base.specs.declared.faults.Stop.TheVariants.{Refused, NoMemory}
@@ -9,7 +9,7 @@ use Rattle.recipe_read.specs.Recipe.{recipe, line, is_bad, said}
 use Rattle.recipe_read.specs.Cursor.{trim, sees, after, sign, value, number_of, number_here, number, integer, command_word, name, layout}
 use Rattle.recipe_read.specs.Words.{verb_of, padding_of, is_reserved, name_of}
 use Rattle.recipe_read.specs.Commands.{first, next, next_name, tile, make_dense, compact_and_pad, command}
-use Rattle.emission.specs.Emitting.{RecipeCause, EmitCause, Denies}
+use Rattle.emission.specs.Emitting.{RecipeCause, EmitCause}
 use Rattle.outcomes.specs.declared.outcome.Refusal.{Refusal}
 use Rattle.outcomes.specs.Refusing.{IfRefused}
 use Rattle.measured_run.specs.declared.making.TheConstants.{RECIPE}
