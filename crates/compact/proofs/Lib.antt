@@ -1,4 +1,3 @@
 pub mod Targets
-pub mod Named
 pub mod Assembled
 pub mod Found

@@ -1,5 +1,5 @@
 -- What the command enters into a kernel.
-use Rattle.std.specs.Prelude.{◌≡◌, ◌≤◌, ◌+◌, ℕ, Bool, true, false, cond, List, [], ◌∷◌, length, ℤ, pos, bytes_eq, Some, Ok, slice_get}
+use Rattle.std.specs.Prelude.{◌≡◌, ◌≤◌, ◌+◌, ℕ, Bool, true, false, cond, List, [], ◌∷◌, length, ℤ, pos, bytes_eq, Some, None, Ok, slice_get}
 use Rattle.c_tree.specs.declared.program.Program.{Program}
 use Rattle.c_tree.specs.declared.program.Matrix.{Matrix}
 use Rattle.c_tree.specs.declared.statement.Stmt.{Stmt}
@@ -15,6 +15,7 @@ use Rattle.inspectors.specs.declared.names.MarkNames.{MarkNames}
 use Rattle.inspectors.specs.Marks.{compact_lines}
 use Rattle.one_statement.specs.Put.{put}
 use Rattle.nest_core.specs.Shapes.{IsShapedNest}
+use Rattle.depend_test.specs.Tested.{FindsAt}
 use Rattle.compact.specs.declared.matching.Target.{Target}
 use Rattle.compact.specs.declared.plan.Plan.{Plan}
 use Rattle.compact.specs.Names.{mark_names, AreFree}
@@ -78,10 +79,11 @@ pub record IsEntered (old new : Kernel) (s : ℕ) (p : Plan) (nest : Nest) : Typ
   pub are : AreLines old.head p.target p.names lines
   pub is : new ≡ put old s nest (made_arrays p.target p.names) lines
 
--- the new kernel is the old one with a level compacted by a plan
+-- the new kernel is the old one with a level compacted by a plan, and the test of the level finds no dependence
 pub record IsCompacted (old new : Kernel) (s level : ℕ) (prefix : List ℕ) : Type 0 where
   pub plan : Plan
   pub is_plan : IsPlan old s level prefix plan
   pub nest : Nest
   pub is_new : IsNew old s level plan nest
   pub entered : IsEntered old new s plan nest
+  pub tested : FindsAt old s level None

@@ -4,3 +4,4 @@ pub mod Names
 pub mod Statement
 pub mod Entered
 pub mod Marked
+pub mod Faults

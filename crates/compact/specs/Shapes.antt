@@ -1,10 +1,6 @@
 -- What is judged before the names.
-use Rattle.std.specs.Prelude.{◌≡◌, ℕ, ◌≤◌, Bool, cond, not, ◌&&◌, nat_le, List, [], ◌∷◌, length, ⊤, Option, Some, None, Result, Err, slice_get}
+use Rattle.std.specs.Prelude.{◌≡◌, ℕ, ◌≤◌, Bool, cond, not, ◌&&◌, nat_le, List, [], ◌∷◌, length, Option, Some, None, Result, Ok, Err, slice_get}
 use Rattle.std.specs.Prelude.{is_some}
-use Rattle.chill_base.specs.declared.faults.Stop.{Stop}
-use Rattle.chill_base.specs.declared.faults.Stop.TheVariants.{Refused}
-use Rattle.nest_tree.specs.declared.fault.CommandFault.{CommandFault}
-use Rattle.nest_tree.specs.declared.fault.CommandFault.TheVariants.{Shape, Depends, Overflow}
 use Rattle.nest_tree.specs.declared.fault.ShapeWhy.{ShapeWhy}
 use Rattle.nest_tree.specs.declared.fault.ShapeWhy.TheVariants.{NoStatement, NoLoop, NotTraversal, NotAlone}
 use Rattle.nest_tree.specs.declared.kernel.Kernel.{Kernel}
@@ -12,7 +8,6 @@ use Rattle.nest_tree.specs.declared.kernel.Nest.{Nest}
 use Rattle.one_statement.specs.Alone.{any_shares}
 use Rattle.compact.specs.Matching.{target_of}
 use Rattle.compact.specs.declared.matching.Target.{Target}
-use Rattle.depend_test.specs.Tested.{FindsAt}
 
 -- the first of these shapes that holds
 abbrev pub lowest : List (Bool × ShapeWhy) → Option ShapeWhy
@@ -35,26 +30,15 @@ first_shape_at s level nests (Some n) = nest_shape s level nests n
 abbrev pub first_shape : Kernel → ℕ → ℕ → Option ShapeWhy
 first_shape k s level = first_shape_at s level k.nests (slice_get k.nests s)
 
--- the shape is answered where there is one; otherwise later shapes and limits may come
-abbrev pub AnswersFirst : Option ShapeWhy → Result (Unit {0}) (Stop CommandFault) → Type 0
-AnswersFirst (Some why) r = r ≡ Err (Refused (Shape why))
-AnswersFirst None r = ⊤
+-- the shape comes where there is one, and where there is none, what comes is Ok
+abbrev pub Judges : {A : Type 0} → Option ShapeWhy → Result A ShapeWhy → Type 0
+Judges shape (Ok x) = shape ≡ None
+Judges shape (Err why) = shape ≡ Some why
 
--- a fault that names no dependence
-abbrev pub NamesNone : CommandFault → Type 0
-NamesNone (Shape why) = ⊤
-NamesNone (Depends d) = ⊥
-NamesNone (Overflow e) = ⊤
-
--- a dependence that is named is the one that the level's test finds
-abbrev pub NamesFound : Kernel → ℕ → ℕ → CommandFault → Type 0
-NamesFound k s level (Shape why) = ⊤
-NamesFound k s level (Depends d) = FindsAt k s level (Some d)
-NamesFound k s level (Overflow e) = ⊤
-
-abbrev pub GivesFirst : {A : Type 0} → Option ShapeWhy → Result A ShapeWhy → Type 0
-GivesFirst (Some why) r = r ≡ Err why
-GivesFirst None r = ⊤
+-- the first shape, and then another
+abbrev pub or_else : Option ShapeWhy → Option ShapeWhy → Option ShapeWhy
+or_else (Some why) further = Some why
+or_else None further = further
 
 -- what is compacted of a statement
 pub record IsTarget (k : Kernel) (s level : ℕ) (t : Target) : Type 0 where

@@ -1,5 +1,5 @@
 // `compact`: a level runs over the values that the entries have.
-ghost use Rattle.std.specs.Prelude.{◌≡◌, ◌<◌, ◌≤◌, length, slice_get, IfOk, IfSome, OnOk, OnErr, Ok, Some, None};
+ghost use Rattle.std.specs.Prelude.{◌≡◌, ◌<◌, ◌≤◌, ◌∷◌, [], length, slice_get, true, IfOk, IfSome, OnOk, OnErr, Ok, Some, None};
 ghost use Rattle.nest_core.specs.Making.{Gives};
 ghost use Rattle.nest_core.specs.Shapes.{IsShaped, IsShapedNest};
 ghost use Rattle.depend_test.specs.Tested.{FindsAt, OnRefused};
@@ -7,8 +7,11 @@ ghost use Rattle.inspectors.specs.Numbers.{IsKept};
 ghost use Rattle.one_statement.specs.Put as putting;
 ghost use Rattle.compact.specs.Entered as entered;
 ghost use Rattle.compact.specs.Entered.{IsCompacted, IsEntered, IsPlan};
+ghost use Rattle.compact.specs.Faults as faults;
+ghost use Rattle.compact.specs.Faults.{AnswersFirst, IsFaultOf, IsPlanFault};
 ghost use Rattle.compact.specs.Shapes as shapes;
-ghost use Rattle.compact.specs.Shapes.{AnswersFirst, GivesFirst};
+ghost use Rattle.compact.specs.Shapes.{Judges};
+ghost use Rattle.nest_limits.specs.Brackets.{are_within};
 
 use crate::arrays::{lines, made_arrays};
 use crate::names::free_names;
@@ -20,20 +23,17 @@ use chill_base::{Name, NoMemory, Stop};
 use depend_test::{first_compact_dependence, overflow};
 use nest_limits::are_within;
 use nest_tree::{CommandFault, Kernel, Nest, ShapeWhy};
-use one_statement::{has_room, put_statement};
+use one_statement::put_statement;
 use std::alloc::Global;
 
 /// What is compacted, or the lowest shape that holds.
 fn judged(kernel: &Kernel, statement: usize, level: usize, prefix: Name) -> Result<Plan, ShapeWhy>
-    ensures first { GivesFirst (shapes.first_shape kernel.now statement level) result }
+    ensures shape { Judges (faults.judged_shape kernel.now statement level prefix) result }
     ensures plan { IfOk result (λ p. IsPlan kernel.now statement level prefix p) }
     ensures small { IfOk result (λ p. IsKept p.target.form) }
 {
     let target = target(kernel, statement, level)?;
     let names = free_names(kernel, prefix)?;
-    if !has_room(kernel, 4) {
-        return Err(ShapeWhy::Limit);
-    }
     Ok(Plan { target, names })
 }
 
@@ -41,7 +41,8 @@ fn judged(kernel: &Kernel, statement: usize, level: usize, prefix: Name) -> Resu
 fn within(head: &Program, nest: Nest) -> Result<Nest, Stop<CommandFault>>
     requires { IsShapedNest head.now nest }
     ensures value { IfOk result (λ n. n ≡ nest) }
-    ensures faults { OnRefused result shapes.NamesNone }
+    ensures within { IfOk result (λ n. are_within (length head.now.params) (n ∷ []) ≡ true) }
+    ensures faults { OnRefused result (faults.IsTooDeep (length head.now.params) nest) }
 {
     let nests = [nest];
     if !are_within(head, &nests) {
@@ -62,7 +63,8 @@ fn new_statement(
     requires shaped { IsShaped kernel.now }
     requires target { shapes.IsTarget kernel.now statement level plan.now.target }
     ensures new { IfOk result (λ n. entered.IsNew kernel.now statement level plan.now n) }
-    ensures faults { OnRefused result (shapes.NamesFound kernel.now statement level) }
+    ensures within { IfOk result (λ n. are_within (length kernel.now.head.params) (n ∷ []) ≡ true) }
+    ensures faults { OnRefused result (IsFaultOf kernel.now statement level plan.now) }
 {
     let nest = &kernel.nests.as_slice()[statement];
     match compacted(
@@ -89,7 +91,7 @@ fn test(
     requires statement { statement < length kernel.now.nests }
     requires level { IfSome (slice_get kernel.now.nests statement) (λ n. (1 ≤ level) × (level ≤ length n.levels)) }
     ensures tested { OnOk result (FindsAt kernel.now statement level None) }
-    ensures faults { OnRefused result (shapes.NamesFound kernel.now statement level) }
+    ensures faults { OnRefused result (faults.IsLevelFault kernel.now statement level) }
 {
     match first_compact_dependence(alloc, kernel, statement, level) {
         Ok(Some(dependence)) => Err(Stop::Refused(CommandFault::Depends(dependence))),
@@ -133,8 +135,7 @@ fn compact_by(
     requires plan { IsPlan kernel.old statement level prefix plan.now }
     requires kept { IsKept plan.now.target.form }
     ensures compacted { OnOk result (IsCompacted kernel.old kernel.new statement level prefix) }
-    ensures tested { OnOk result (FindsAt kernel.old statement level None) }
-    ensures faults { OnRefused result (shapes.NamesFound kernel.old statement level) }
+    ensures faults { OnRefused result (IsPlanFault kernel.old statement level prefix) }
     ensures shaped { OnOk result (IsShaped kernel.new) }
     ensures unchanged { OnErr result (kernel.new ≡ kernel.old) }
 {
@@ -154,10 +155,8 @@ pub fn compact(
     name: Name,
 ) -> Result<(), Stop<CommandFault>>
     requires { IsShaped kernel.old }
-    ensures first { AnswersFirst (shapes.first_shape kernel.old statement level) result }
+    ensures first { AnswersFirst kernel.old statement level name (faults.judged_shape kernel.old statement level name) result }
     ensures compacted { OnOk result (IsCompacted kernel.old kernel.new statement level name) }
-    ensures tested { OnOk result (FindsAt kernel.old statement level None) }
-    ensures faults { OnRefused result (shapes.NamesFound kernel.old statement level) }
     ensures shaped { OnOk result (IsShaped kernel.new) }
     ensures unchanged { OnErr result (kernel.new ≡ kernel.old) }
 {

@@ -1,13 +1,13 @@
 // The names that a compacted level makes.
-ghost use Rattle.std.specs.Prelude.{◌≡◌, false, IfOk, IfSome, IsTrue, Some};
+ghost use Rattle.std.specs.Prelude.{◌≡◌, ◌≤◌, ◌+◌, length, IfOk, Some};
 ghost use Rattle.compact.specs.Names as spec;
 ghost use Rattle.compact.specs.Names.{AreFree};
-ghost use Rattle.one_statement.specs.Names as free;
+ghost use Rattle.compact.specs.Shapes.{Judges};
 
 use chill_base::Name;
 use inspectors::MarkNames;
 use nest_tree::{Kernel, ShapeWhy};
-use one_statement::{is_free, made_name};
+use one_statement::{has_room, is_free, made_name};
 
 fn all_names(
     ptr: Option<Name>,
@@ -43,7 +43,7 @@ pub fn mark_names(prefix: Name) -> Option<MarkNames>
 
 /// Whether there is such a name, and no array of it can be made.
 fn is_taken(kernel: &Kernel, name: &Option<Name>) -> bool
-    ensures { result ≡ false → IfSome name.now (λ n. IsTrue (free.is_free kernel.now n)) }
+    ensures { result ≡ spec.is_taken kernel.now name.now }
 {
     match *name {
         Some(name) => !is_free(kernel, name),
@@ -59,10 +59,7 @@ fn any_taken(
     num: &Option<Name>,
     mark: &Option<Name>,
 ) -> bool
-    ensures ptr { result ≡ false → IfSome ptr.now (λ n. IsTrue (free.is_free kernel.now n)) }
-    ensures val { result ≡ false → IfSome val.now (λ n. IsTrue (free.is_free kernel.now n)) }
-    ensures num { result ≡ false → IfSome num.now (λ n. IsTrue (free.is_free kernel.now n)) }
-    ensures mark { result ≡ false → IfSome mark.now (λ n. IsTrue (free.is_free kernel.now n)) }
+    ensures { result ≡ spec.any_taken kernel.now ptr.now val.now num.now mark.now }
 {
     is_taken(kernel, ptr)
         || is_taken(kernel, val)
@@ -70,7 +67,7 @@ fn any_taken(
         || is_taken(kernel, mark)
 }
 
-/// These names, where they are free and none is too long.
+/// These names, where they are free, none is too long, and there is room for their arrays.
 fn judged_names(
     kernel: &Kernel,
     ptr: Option<Name>,
@@ -78,22 +75,29 @@ fn judged_names(
     num: Option<Name>,
     mark: Option<Name>,
 ) -> Result<MarkNames, ShapeWhy>
+    ensures shape { Judges (spec.shape_of kernel.now ptr val num mark) result }
     ensures names { IfOk result (λ b. spec.all_names ptr val num mark ≡ Some b) }
     ensures free { IfOk result (AreFree kernel.now) }
+    ensures room { IfOk result (λ b. length kernel.now.made + 4 ≤ 384) }
 {
     if any_taken(kernel, &ptr, &val, &num, &mark) {
         return Err(ShapeWhy::NameTaken);
     }
-    match all_names(ptr, val, num, mark) {
-        Some(names) => Ok(names),
-        None => Err(ShapeWhy::Limit),
+    let Some(names) = all_names(ptr, val, num, mark) else {
+        return Err(ShapeWhy::Limit);
+    };
+    if !has_room(kernel, 4) {
+        return Err(ShapeWhy::Limit);
     }
+    Ok(names)
 }
 
-/// The names with this prefix, where they are free and none is too long.
+/// The names with this prefix, where they are free, none is too long, and there is room for their arrays.
 pub fn free_names(kernel: &Kernel, prefix: Name) -> Result<MarkNames, ShapeWhy>
+    ensures shape { Judges (spec.names_shape kernel.now prefix) result }
     ensures names { IfOk result (λ b. spec.mark_names prefix ≡ Some b) }
     ensures free { IfOk result (AreFree kernel.now) }
+    ensures room { IfOk result (λ b. length kernel.now.made + 4 ≤ 384) }
 {
     judged_names(
         kernel,

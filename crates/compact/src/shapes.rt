@@ -3,7 +3,7 @@ ghost use Rattle.std.specs.Prelude.{◌≡◌, ◌≤◌, length, IfOk, Some};
 ghost use Rattle.inspectors.specs.Numbers.{IsKept};
 ghost use Rattle.compact.specs.Matching as matching;
 ghost use Rattle.compact.specs.Shapes as spec;
-ghost use Rattle.compact.specs.Shapes.{GivesFirst, IsTarget};
+ghost use Rattle.compact.specs.Shapes.{Judges, IsTarget};
 
 use crate::matching::{Target, target_of};
 use nest_tree::{Kernel, Nest, ShapeWhy};
@@ -16,7 +16,7 @@ fn nest_target(
     level: usize,
     nest: &Nest,
 ) -> Result<Target, ShapeWhy>
-    ensures first { GivesFirst (spec.nest_shape statement level nests.now nest.now) result }
+    ensures first { Judges (spec.nest_shape statement level nests.now nest.now) result }
     ensures low { IfOk result (λ t. 1 ≤ level) }
     ensures high { IfOk result (λ t. level ≤ length nest.now.levels) }
     ensures target { IfOk result (λ t. matching.target_of level nest.now ≡ Some t) }
@@ -37,7 +37,7 @@ fn nest_target(
 
 /// What is compacted, or the first shape that holds.
 pub fn target(kernel: &Kernel, statement: usize, level: usize) -> Result<Target, ShapeWhy>
-    ensures first { GivesFirst (spec.first_shape kernel.now statement level) result }
+    ensures first { Judges (spec.first_shape kernel.now statement level) result }
     ensures target { IfOk result (λ t. IsTarget kernel.now statement level t) }
     ensures small { IfOk result (λ t. IsKept t.form) }
 {

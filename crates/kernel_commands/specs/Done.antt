@@ -16,7 +16,7 @@ use Rattle.pad_layouts.specs.Plans.{plan_of}
 use Rattle.compact_pad.specs.Padded.{IsPadded}
 
 -- The commands that move instances make the kernel of their moves, and those that may change an order are tested. The others put in what they make: a copy and the
--- statement that fills it, a level for columns, a level over kept values, a padded statement.
+-- statement that fills it, a level for columns, a level over kept values, a padded statement; but for the copy, they are tested too.
 abbrev pub IsDone : Kernel → Kernel → Command → Type 0
 IsDone old new (Permute s order) = IsMoved old new (permute_moves old s order)
 IsDone old new (Tile s level size outer) = IsMade old new (tile_moves old s level size outer)

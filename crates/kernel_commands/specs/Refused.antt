@@ -15,7 +15,7 @@ use Rattle.unroll.specs.Moves.{unrolled}
 use Rattle.datacopy.specs.Copied as copied
 use Rattle.make_dense.specs.Judge.{judged_matrix}
 use Rattle.make_dense.specs.Dense as dense
-use Rattle.compact.specs.Shapes as compacted
+use Rattle.compact.specs.Faults as compacted
 use Rattle.pad_layouts.specs.Plans.{plan_of}
 use Rattle.compact_pad.specs.Answers as padded
 
@@ -25,10 +25,9 @@ IsFaultOf determined (Ok u) = ⊤
 IsFaultOf determined (Err (Refused fault)) = determined ≡ Err fault
 IsFaultOf determined (Err NoMemory) = ⊤
 
--- Where a condition of a command isn't met, it answers by the lowest one; of the commands that change data this is said of the
--- conditions that are looked at before anything is made. What `skew` answers is determined. A dependence that the other commands
--- that move instances name is the first that their test finds; where they have moves they answer no shape, but for `unroll`. An
--- innermost `unroll` names no dependence.
+-- Where a condition of a command isn't met, it answers by the lowest one; of `datacopy` this is said of the conditions that are
+-- looked at before anything is made. What `skew` answers is determined. A dependence that a tested command names is the first that
+-- its test finds; where its conditions are met it answers no shape, but for `unroll`. An innermost `unroll` and padded rows name none.
 abbrev pub Answers : Kernel → Command → Result (Unit {0}) (Stop CommandFault) → Type 0
 Answers old (Permute s order) result = Refuses (IsMovedFault old) (permute_moves old s order) result
 Answers old (Tile s level size outer) result = Refuses (IsTestFault old) (tile_moves old s level size outer) result
@@ -39,5 +38,5 @@ Answers old (Distribute s level) result = Refuses (IsTestFault old) (distribute_
 Answers old (Unroll s level factor) result = OnRefused result (IsUnrollFault old (is_innermost level (slice_get old.nests s)) (unrolled old s level factor))
 Answers old (Datacopy s level array copy) result = copied.AnswersFirst (copied.first_shape old s level array) result
 Answers old (MakeDense s level) result = dense.Refuses (dense.IsDenseFault old s level) (judged_matrix old s level) result
-Answers old (Compact s level name) result = compacted.AnswersFirst (compacted.first_shape old s level) result
+Answers old (Compact s level name) result = compacted.AnswersFirst old s level name (compacted.judged_shape old s level name) result
 Answers old (CompactAndPad s level kind name) result = padded.AnswersFirst old s name (plan_of old s level kind) result
