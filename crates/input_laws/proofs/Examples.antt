@@ -28,7 +28,7 @@ use Rattle.input_laws.specs.Examples.{copied, copied_text, WorkedInput, WorkedRu
 use Rattle.input_laws.proofs.Alike.{alike}
 use Rattle.input_laws.proofs.Starts.{runs}
 
-copying_is : IsProgram copying_tokens copying
+pub copying_is : IsProgram copying_tokens copying
 copying_is =
     p.program p.none (p.more (p.arrays (p.more (p.numbers (p.one (i.subscript (i.first (i.factor i.name))))) (p.one (p.numbers (p.one (i.subscript (i.first (i.factor i.name)))))))))
     (p.alone (s'.one (s'.loop (i.first (i.factor (i.number (omega arith)))) (i.first (i.factor i.name))
@@ -50,13 +50,13 @@ fixes : fixed_fault (signature copying) part.Executor copying.executor ≡ None
 unfolding signature find
 fixes = simp (changes_for, changes_assign)
 
-keeps : KeepsRules copying
+pub keeps : KeepsRules copying
 unfolding fault_of all_names
 keeps =
     ap (λ (f : Fault). option_or f (option_or (signature_fault (signature copying) copying) (fixed_in copying (all_names copying)))) limits
     ∙ ap (λ (f : Fault). option_or f (fixed_in copying (all_names copying))) sign ∙ ap (fixed_in copying) judges ∙ fixes
 
-text_says : says copying copied_text ≡ Ok copied
+pub text_says : says copying copied_text ≡ Ok copied
 unfolding dues
 text_says = simp measure-Var
 

@@ -5,3 +5,6 @@ pub mod Matrices
 pub mod Alike
 pub mod Examples
 pub mod Entries
+pub mod Texts
+pub mod Leaving
+pub mod CopiedText

@@ -7,6 +7,7 @@ use Rattle.run_laws.specs.Examples.{copying, copied_values, copied_arrays}
 use Rattle.first_form.specs.Nests.{outer_name}
 use Rattle.first_laws.specs.Examples as first
 use Rattle.input_laws.specs.Alike.{RunAlikeOn}
+use Rattle.program_run.specs.Runs.{LeavesText}
 use Rattle.input_laws.specs.Inputs.{Reads, RunsAsDefined, input_of}
 
 -- n is 2; b has 5 and 7, c has 1 and 0
@@ -25,3 +26,10 @@ WorkedInput =
 -- and the program that is written for it does the same on that text
 abbrev pub WorkedRuns : Type 0
 WorkedRuns = RunAlikeOn copying (first.copying outer_name) copied_text copied
+
+-- behind either loop b has the cells of c, and this is the text of it
+abbrev pub copied_output : List ℕ
+copied_output = codes "n 2\nb 1 0\nc 1 0\n"
+
+abbrev pub WorkedText : Type 0
+WorkedText = LeavesText copying copied_values copied_arrays copied_output × LeavesText (first.copying outer_name) copied_values copied_arrays copied_output

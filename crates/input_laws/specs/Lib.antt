@@ -3,3 +3,4 @@ pub mod Examples
 pub mod Alike
 pub mod Rows
 pub mod Entries
+pub mod Texts

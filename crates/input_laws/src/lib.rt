@@ -1,12 +1,14 @@
 //! The input that a data text gives: it is valid, and the machine's run on what the text gives is the run of the
-//! definitions on that input. Each function here carries one law as its contract.
+//! definitions on that input. And the text that a run leaves: the arrays determine it. Each function here carries one law
+//! as its contract.
 #![tactic(auto)]
 
 ghost use Rattle.input_laws.specs.Alike.{FirstFormRunsAlike};
 ghost use Rattle.input_laws.specs.Entries.{WorkedMatrix};
-ghost use Rattle.input_laws.specs.Examples.{WorkedInput, WorkedRuns};
+ghost use Rattle.input_laws.specs.Examples.{WorkedInput, WorkedRuns, WorkedText};
 ghost use Rattle.input_laws.specs.Inputs.{InputIsValid, ParametersAreValid, ExtentsAreValid, NumbersAreValid, SameStart, SameRuns};
 ghost use Rattle.input_laws.specs.Rows.{NoneIsBroken, UnbrokenIsCsr};
+ghost use Rattle.input_laws.specs.Texts.{SameArraysSameText, OneText, SameEffectSameText, FirstFormSameText};
 
 /// What a data text gives for a program that keeps the rules is a valid input of it.
 pub fn input_is_valid()
@@ -67,4 +69,29 @@ pub fn worked_runs()
 /// A data text with a matrix of one row and two entries.
 pub fn worked_matrix()
     ensures { WorkedMatrix }
+{}
+
+/// Arrays with all their cells that have the same extents and the same cells are printed alike.
+pub fn same_arrays_same_text()
+    ensures { SameArraysSameText }
+{}
+
+/// A run leaves one text at most.
+pub fn one_text()
+    ensures { OneText }
+{}
+
+/// Two programs of the same arrays that leave them the same on the same values leave the same text.
+pub fn same_effect_same_text()
+    ensures { SameEffectSameText }
+{}
+
+/// A program of the first form and the one that is written for it leave the same text of what a data text gives.
+pub fn first_form_same_text()
+    ensures { FirstFormSameText }
+{}
+
+/// The text that a loop that copies an array leaves, and the loop that is written for it.
+pub fn worked_text()
+    ensures { WorkedText }
 {}

@@ -36,7 +36,8 @@ module _ (p : Program) (ps : List Parameter) (ts : List Table) where
       done = record { inspector = none; executor = ap (λ (o : Outcome). o.trouble) (sym same_run) ∙ h.0 };
       left = h.1.0;
       are = h.1.1 ∙ ap (λ (o : Outcome). o.last) same_run;
-      is_text = h.1.2 ∙ ap (λ (l : List ℕ). l ++ arrays_text h.1.0 p.arrays) e;
+      whole = h.1.2;
+      is_text = h.1.3 ∙ ap (λ (l : List ℕ). l ++ arrays_text h.1.0 p.arrays) e;
     }
     leaves (Err (stop.Refused f)) front e h = inr (none, subst (λ (o : Outcome). Refuses Executor o f) same_run h)
     leaves (Err stop.NoMemory) front e h = tt

@@ -14,7 +14,7 @@ use Rattle.c_run.specs.declared.fault.RunFault.{RunFault}
 use Rattle.c_run.specs.declared.fault.RunFault.TheVariants as fault
 use Rattle.c_run.specs.declared.fault.Section.{Section}
 use Rattle.c_run.specs.declared.fault.Section.TheVariants.{Inspector, Executor}
-use Rattle.c_run.specs.Printing.{arrays_text}
+use Rattle.c_run.specs.Printing.{arrays_text, AreWhole}
 use Rattle.c_run.specs.Ready.{scope_behind}
 use Rattle.c_run.specs.Sections.{Refuses, IsCut, inspector_run, executor_run, trace_of}
 use Rattle.c_run.specs.Store.{prepared}
@@ -33,11 +33,12 @@ pub record IsDone (p : Program) (ps : List Parameter) (ts : List Table) : Type 0
   pub inspector : (inspected p ps ts).trouble ≡ None
   pub executor : (executed p ps ts).trouble ≡ None
 
--- the run has no fault, and the text is that of the parameters and of the arrays as the run leaves them
+-- the run has no fault, and the text is that of the parameters and of all cells of the arrays as the run leaves them
 pub record LeavesText (p : Program) (ps : List Parameter) (ts : List Table) (text : List ℕ) : Type 0 where
   pub done : IsDone p ps ts
   pub left : List Table
   pub are : memory_in (prepared [] left) ≡ (executed p ps ts).last
+  pub whole : AreWhole left p.arrays
   pub is_text : text ≡ parameters_text ps ++ arrays_text left p.arrays
 
 -- the inspector has this fault, or else the executor
@@ -84,6 +85,6 @@ IsBefore (Err traced.NoMemory) = Unit {0}
 
 -- what the executor leaves behind a front of the text, from this state
 abbrev pub ExecutorLeaves : Program → State → List ℕ → Result (List ℕ) (Stop RunFault) → Type 0
-ExecutorLeaves p s front (Ok text) = ((executor_run p s).trouble ≡ None) × ((left : List Table) × (memory_in (prepared [] left) ≡ (executor_run p s).last) × (text ≡ front ++ arrays_text left p.arrays))
+ExecutorLeaves p s front (Ok text) = ((executor_run p s).trouble ≡ None) × ((left : List Table) × (memory_in (prepared [] left) ≡ (executor_run p s).last) × AreWhole left p.arrays × (text ≡ front ++ arrays_text left p.arrays))
 ExecutorLeaves p s front (Err (stop.Refused f)) = Refuses Executor (executor_run p s) f
 ExecutorLeaves p s front (Err stop.NoMemory) = Unit {0}
