@@ -8,3 +8,5 @@ pub mod Entries
 pub mod Texts
 pub mod Leaving
 pub mod CopiedText
+pub mod Bytes
+pub mod CopiedBytes

@@ -4,3 +4,4 @@ pub mod Alike
 pub mod Rows
 pub mod Entries
 pub mod Texts
+pub mod Bytes

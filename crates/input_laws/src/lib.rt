@@ -4,6 +4,7 @@
 #![tactic(auto)]
 
 ghost use Rattle.input_laws.specs.Alike.{FirstFormRunsAlike};
+ghost use Rattle.input_laws.specs.Bytes.{SameBytes, NoneIsDenied, WorkedBytes};
 ghost use Rattle.input_laws.specs.Entries.{WorkedMatrix};
 ghost use Rattle.input_laws.specs.Examples.{WorkedInput, WorkedRuns, WorkedText};
 ghost use Rattle.input_laws.specs.Inputs.{InputIsValid, ParametersAreValid, ExtentsAreValid, NumbersAreValid, SameStart, SameRuns};
@@ -94,4 +95,20 @@ pub fn first_form_same_text()
 /// The text that a loop that copies an array leaves, and the loop that is written for it.
 pub fn worked_text()
     ensures { WorkedText }
+{}
+
+/// Where `run` is done on a source and on a text that performs as the source does, both with one data text, it gives the same
+/// bytes.
+pub fn same_bytes()
+    ensures { SameBytes }
+{}
+
+/// Where `run` is done on a source, it has no cause to refuse a text that performs as the source does.
+pub fn none_is_denied()
+    ensures { NoneIsDenied }
+{}
+
+/// The bytes that `run` gives of a loop that copies an array, and of the text that is written for it.
+pub fn worked_bytes()
+    ensures { WorkedBytes }
 {}
