@@ -21,7 +21,7 @@ use Rattle.scanning.specs.Projections.{is_implied}
 use Rattle.implied_laws.specs.Examples.{head, rows, some, input, WorkedImplication}
 use Rattle.implied_laws.proofs.Implied.{implied_law}
 
-ranged : IsRanged head [] input
+pub ranged : IsRanged head [] input
 ranged = record {
   count = refl;
   params = λ v l. at v l;

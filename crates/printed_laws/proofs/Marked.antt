@@ -21,16 +21,16 @@ use Rattle.printed_laws.specs.Opened.{RestsOn}
 use Rattle.printed_laws.proofs.Forms.{marked, where_marked}
 
 -- ---- marks along the table
-front : (bs cs : List Bool) (j : ℕ) → j < length bs → marked j (bs ++ cs) ≡ marked j bs
+pub front : (bs cs : List Bool) (j : ℕ) → j < length bs → marked j (bs ++ cs) ≡ marked j bs
 front [] cs j l = absurd (omega (arith, l))
 front (b ∷ bs) cs zero l = refl
 front (b ∷ bs) cs (suc j) l = front bs cs j (omega (arith, l))
 
-last : (bs : List Bool) (b : Bool) → marked (length bs) (bs ++ b ∷ []) ≡ b
+pub last : (bs : List Bool) (b : Bool) → marked (length bs) (bs ++ b ∷ []) ≡ b
 last [] b = refl
 last (c ∷ bs) b = last bs b
 
-marked_inside : (bs : List Bool) (j : ℕ) → marked j bs ≡ true → j < length bs
+pub marked_inside : (bs : List Bool) (j : ℕ) → marked j bs ≡ true → j < length bs
 marked_inside [] j h = absurd (cc)
 marked_inside (b ∷ bs) zero h = omega arith
 marked_inside (b ∷ bs) (suc j) h = let l = marked_inside bs j h in omega (arith, l)
@@ -41,7 +41,7 @@ kept q (r ∷ more) bs j l =
     let b : Bool = list_all (form_before q bs) r.at in
     kept q more (bs ++ b ∷ []) j (omega (arith, length-append bs (b ∷ []), l)) ∙ front bs (b ∷ []) j l
 
-all_at : (P : Affine → Bool) (fs : List Affine) (f : Affine) → list_all P fs ≡ true → IsIn f fs → P f ≡ true
+pub all_at : (P : Affine → Bool) (fs : List Affine) (f : Affine) → list_all P fs ≡ true → IsIn f fs → P f ≡ true
 all_at P [] f h m = absurd m
 all_at P (g ∷ fs) f h (inl e) = subst (λ (x : Affine). P x ≡ true) (sym e) (and_parts (P g) (list_all P fs) h).0
 all_at P (g ∷ fs) f h (inr m) = all_at P fs f (and_parts (P g) (list_all P fs) h).1 m
@@ -70,7 +70,46 @@ end_in [] i j (inr m) = absurd m
 end_in (n ∷ ns) i j (inl e) = inl (inl e)
 end_in (n ∷ ns) i j (inr m) = elim (end_in ns i j m) [ inl k ↦ inl (inr k) | inr e ↦ inr e ]
 
--- ---- what a form names
+-- ---- what a form names has what all that it holds has, where this goes on to the reads in arguments
+module _ (table : List Read) (P : ℕ → Type 0) (closed : (b : ℕ) → P b → (g : Affine) → IsIn g (arguments (slice_get table b)) → (j : ℕ) → (number_at j g.reads ≡ pos 0 → ⊥) → P j) where
+  abbrev pub AllHave : List ℕ → Type 0
+  AllHave ns = (i : ℕ) → IsIn i ns → P i
+
+  abbrev pub HeldHave : Affine → Type 0
+  HeldHave f = (j : ℕ) → (number_at j f.reads ≡ pos 0 → ⊥) → P j
+
+  abbrev NamesHave : ℕ → Type 0
+  NamesHave b = (ns : List ℕ) (f : Affine) → AllHave ns → HeldHave f → AllHave (named_below table b ns f)
+
+  new_has : (ns : List ℕ) (i : ℕ) → AllHave ns → P i → AllHave (with_new ns i)
+  new_has ns i all one = by_there (list_any (nat_eq i) ns)
+    where
+      by_there : (b : Bool) → AllHave (cond b ns (ns ++ i ∷ []))
+      by_there true = all
+      by_there false = λ j m. elim (end_in ns i j m) [ inl k ↦ all j k | inr e ↦ subst P (sym e) one ]
+
+  each_has : (b : ℕ) → NamesHave b → (fs : List Affine) (ns : List ℕ) → AllHave ns → ((g : Affine) → IsIn g fs → HeldHave g) → AllHave (fold (named_below table b) ns fs)
+  each_has b one [] ns all h = all
+  each_has b one (f ∷ fs) ns all h = each_has b one fs (named_below table b ns f) (one ns f all (h f (inl refl))) (λ g m. h g (inr m))
+
+  read_has : (b : ℕ) → NamesHave b → (ns : List ℕ) → AllHave ns → P b → AllHave (with_new (fold (named_below table b) ns (arguments (slice_get table b))) b)
+  read_has b one ns all own =
+      new_has (fold (named_below table b) ns (arguments (slice_get table b))) b (each_has b one (arguments (slice_get table b)) ns all (λ g m j n. closed b own g m j n)) own
+
+  by_number : (b : ℕ) → NamesHave b → (ns : List ℕ) (z : ℤ) → AllHave ns → ((z ≡ pos 0 → ⊥) → P b)
+      → AllHave (if_held z (λ z ls. with_new (fold (named_below table b) ls (arguments (slice_get table b))) b) ns)
+  by_number b one ns (pos zero) all h = all
+  by_number b one ns (pos (suc n)) all h = read_has b one ns all (h (λ e. omega (arith, ints, e)))
+  by_number b one ns (negsuc n) all h = read_has b one ns all (h (λ e. omega (arith, ints, e)))
+
+  below_have : (b : ℕ) → NamesHave b
+  below_have zero ns f all h = all
+  below_have (suc b) ns f all h = by_number b (below_have b) (named_below table b ns f) (number_at b f.reads) (below_have b ns f all h) (h b)
+
+  pub named_have : (ns : List ℕ) (f : Affine) → AllHave ns → HeldHave f → AllHave (named table ns f)
+  named_have = below_have (length table)
+
+-- reads that name only levels around are so
 module _ (q : ℕ) (table : List Read) where
   abbrev IsMarked : ℕ → Type 0
   IsMarked j = marked j (befores_from q [] table) ≡ true
@@ -81,38 +120,13 @@ module _ (q : ℕ) (table : List Read) where
   abbrev pub HoldsMarked : Affine → Type 0
   HoldsMarked f = (j : ℕ) → (number_at j f.reads ≡ pos 0 → ⊥) → IsMarked j
 
-  abbrev NamesMarked : ℕ → Type 0
-  NamesMarked b = (ns : List ℕ) (f : Affine) → AreMarked ns → HoldsMarked f → AreMarked (named_below table b ns f)
-
-  new_marked : (ns : List ℕ) (i : ℕ) → AreMarked ns → IsMarked i → AreMarked (with_new ns i)
-  new_marked ns i all one = by_there (list_any (nat_eq i) ns)
-    where
-      by_there : (b : Bool) → AreMarked (cond b ns (ns ++ i ∷ []))
-      by_there true = all
-      by_there false = λ j m. elim (end_in ns i j m) [ inl k ↦ all j k | inr e ↦ subst IsMarked (sym e) one ]
-
-  each_marked : (b : ℕ) → NamesMarked b → (fs : List Affine) (ns : List ℕ) → AreMarked ns → ((g : Affine) → IsIn g fs → HoldsMarked g) → AreMarked (fold (named_below table b) ns fs)
-  each_marked b one [] ns all h = all
-  each_marked b one (f ∷ fs) ns all h = each_marked b one fs (named_below table b ns f) (one ns f all (h f (inl refl))) (λ g m. h g (inr m))
-
-  read_marked : (b : ℕ) → NamesMarked b → (ns : List ℕ) → AreMarked ns → IsMarked b → AreMarked (with_new (fold (named_below table b) ns (arguments (slice_get table b))) b)
-  read_marked b one ns all own =
+  inner_marked : (b : ℕ) → IsMarked b → (g : Affine) → IsIn g (arguments (slice_get table b)) → (j : ℕ) → (number_at j g.reads ≡ pos 0 → ⊥) → IsMarked j
+  inner_marked b own g m j n =
       let place : b ≡ 0 + b = omega arith in
-      let here : marked (0 + b) (befores_from q [] table) ≡ true = subst IsMarked place own in
-      new_marked (fold (named_below table b) ns (arguments (slice_get table b))) b (each_marked b one (arguments (slice_get table b)) ns all (λ g m j n. arguments_marked q table [] b here g m j n)) own
-
-  by_number : (b : ℕ) → NamesMarked b → (ns : List ℕ) (z : ℤ) → AreMarked ns → ((z ≡ pos 0 → ⊥) → IsMarked b)
-      → AreMarked (if_held z (λ z ls. with_new (fold (named_below table b) ls (arguments (slice_get table b))) b) ns)
-  by_number b one ns (pos zero) all h = all
-  by_number b one ns (pos (suc n)) all h = read_marked b one ns all (h (λ e. omega (arith, ints, e)))
-  by_number b one ns (negsuc n) all h = read_marked b one ns all (h (λ e. omega (arith, ints, e)))
-
-  below_marked : (b : ℕ) → NamesMarked b
-  below_marked zero ns f all h = all
-  below_marked (suc b) ns f all h = by_number b (below_marked b) (named_below table b ns f) (number_at b f.reads) (below_marked b ns f all h) (h b)
+      arguments_marked q table [] b (subst IsMarked place own) g m j n
 
   pub named_marked : (ns : List ℕ) (f : Affine) → AreMarked ns → HoldsMarked f → AreMarked (named table ns f)
-  named_marked = below_marked (length table)
+  named_marked = named_have table IsMarked inner_marked
 
 -- what bounds name, one behind the other
 module _ (q : ℕ) (table : List Read) (t : IsTable table) where

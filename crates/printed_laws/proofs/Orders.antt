@@ -52,7 +52,7 @@ new_distinct ns i d = by_there (list_any (nat_eq i) ns) refl
     by_there true e = d
     by_there false e = distinct_end ns i d e
 
-fold_keeps : {X : Type 0} (f : List ℕ → X → List ℕ) → ((ns : List ℕ) (x : X) → AreDistinct ns → AreDistinct (f ns x)) → (xs : List X) (ns : List ℕ) → AreDistinct ns → AreDistinct (fold f ns xs)
+pub fold_keeps : {X : Type 0} (f : List ℕ → X → List ℕ) → ((ns : List ℕ) (x : X) → AreDistinct ns → AreDistinct (f ns x)) → (xs : List X) (ns : List ℕ) → AreDistinct ns → AreDistinct (fold f ns xs)
 fold_keeps f k [] ns d = d
 fold_keeps f k (x ∷ xs) ns d = fold_keeps f k xs (f ns x) (k ns x d)
 
@@ -62,7 +62,7 @@ held_keeps (pos (suc n)) act ns k d = k (pos (suc n))
 held_keeps (negsuc n) act ns k d = k (negsuc n)
 
 module _ (table : List Read) where
-  below_distinct : (b : ℕ) (ns : List ℕ) (f : Affine) → AreDistinct ns → AreDistinct (named_below table b ns f)
+  pub below_distinct : (b : ℕ) (ns : List ℕ) (f : Affine) → AreDistinct ns → AreDistinct (named_below table b ns f)
   below_distinct zero ns f d = d
   below_distinct (suc b) ns f d =
       held_keeps (number_at b f.reads) (λ z ms. with_new (fold (named_below table b) ms (arguments (slice_get table b))) b) (named_below table b ns f)

@@ -57,7 +57,7 @@ module _ {A : Type 0} (o : A) (add : A → A → A) where
     sums-both g h [] = w.before o
     sums-both g h (i ∷ is) = w.four (g i) (sums g is) (h i) (sums h is) ∙ ap (λ (x : A). add (add (g i) (h i)) x) (sums-both g h is)
 
-    sums-filter : (g : ℕ → A) (p : ℕ → Bool) (is : List ℕ) → sums g (filter p is) ≡ sums (λ i. cond (p i) (g i) o) is
+    pub sums-filter : (g : ℕ → A) (p : ℕ → Bool) (is : List ℕ) → sums g (filter p is) ≡ sums (λ i. cond (p i) (g i) o) is
     sums-filter g p [] = refl
     sums-filter g p (i ∷ is) = chosen (sums-filter g p is) (p i)
       where

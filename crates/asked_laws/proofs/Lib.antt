@@ -1,0 +1,6 @@
+pub mod Along
+pub mod Chosen
+pub mod Local
+pub mod Points
+pub mod Asked
+pub mod Worked
