@@ -1,5 +1,5 @@
 -- The reads that a form names, where those that it holds name only levels around: so do the reads in their arguments.
-use Rattle.std.proofs.Common.{◌≡◌, ◌⊎◌, inl, inr, ℕ, zero, suc, ◌+◌, ◌<◌, List, [], ◌∷◌, ◌++◌, length, refl, sym, ◌∙◌, subst, arith, ℤ, pos, negsuc, nat_eq, Bool, true, false, cond, length-append}
+use Rattle.std.proofs.Common.{◌≡◌, ◌⊎◌, inl, inr, ℕ, zero, suc, ◌+◌, ◌<◌, List, [], ◌∷◌, ◌++◌, length, drop, refl, sym, ◌∙◌, subst, arith, ℤ, pos, negsuc, nat_eq, Bool, true, false, cond, length-append}
 use Rattle.std.specs.Prelude.{slice_get}
 use Rattle.std.specs.List.{list_all, list_any, fold, AllByRecursion}
 use Rattle.std.proofs.lemmas.Int.{ints}
@@ -9,7 +9,7 @@ use Rattle.nest_tree.specs.Loops.{Levels}
 use Rattle.scan_forms.specs.declared.affine.Affine.{Affine}
 use Rattle.scan_forms.specs.declared.bounds.Bound.{Bound}
 use Rattle.scan_forms.specs.declared.reads.Read.{Read}
-use Rattle.scan_forms.specs.Numbers.{number_at}
+use Rattle.scan_forms.specs.Numbers.{number_at, are_zero}
 use Rattle.loop_scan.specs.declared.sides.Sides.{Sides}
 use Rattle.scanning.specs.Named.{named_below, named, arguments, with_new}
 use Rattle.scanning.specs.Reads.{if_held}
@@ -46,23 +46,27 @@ all_at P [] f h m = absurd m
 all_at P (g ∷ fs) f h (inl e) = subst (λ (x : Affine). P x ≡ true) (sym e) (and_parts (P g) (list_all P fs) h).0
 all_at P (g ∷ fs) f h (inr m) = all_at P fs f (and_parts (P g) (list_all P fs) h).1 m
 
--- the arguments of a marked read hold only marked reads
-arguments_marked : (q : ℕ) (table : List Read) (bs : List Bool) (b : ℕ) → marked (length bs + b) (befores_from q bs table) ≡ true
-    → (g : Affine) → IsIn g (arguments (slice_get table b)) → (j : ℕ) → (number_at j g.reads ≡ pos 0 → ⊥) → marked j (befores_from q bs table) ≡ true
-arguments_marked q [] bs b h g m j n = absurd m
-arguments_marked q (r ∷ more) bs zero h g m j n =
+-- the arguments of a marked read name only levels before, and hold only marked reads
+pub arguments_before : (q : ℕ) (table : List Read) (bs : List Bool) (b : ℕ) → marked (length bs + b) (befores_from q bs table) ≡ true → (g : Affine) → IsIn g (arguments (slice_get table b))
+    → (are_zero (drop q g.levels) ≡ true) × ((j : ℕ) → (number_at j g.reads ≡ pos 0 → ⊥) → marked j (befores_from q bs table) ≡ true)
+arguments_before q [] bs b h g m = absurd m
+arguments_before q (r ∷ more) bs zero h g m =
     let x : Bool = list_all (form_before q bs) r.at in
     let longer : length (bs ++ x ∷ []) ≡ length bs + 1 = length-append bs (x ∷ []) in
     let place : length bs + 0 ≡ length bs = omega arith in
     let own : marked (length bs) (befores_from q (bs ++ x ∷ []) more) ≡ x = kept q more (bs ++ x ∷ []) (length bs) (omega (arith, longer)) ∙ last bs x in
     let is : x ≡ true = sym own ∙ subst (λ (i : ℕ). marked i (befores_from q (bs ++ x ∷ []) more) ≡ true) place h in
-    let here : marked j bs ≡ true = where_marked bs g.reads j (and_parts _ (only_where bs g.reads) (all_at (form_before q bs) r.at g is m)).1 n in
-    let inside = marked_inside bs j here in
-    kept q more (bs ++ x ∷ []) j (omega (arith, longer, inside)) ∙ front bs (x ∷ []) j inside ∙ here
-arguments_marked q (r ∷ more) bs (suc b) h g m j n =
+    let both = and_parts (are_zero (drop q g.levels)) (only_where bs g.reads) (all_at (form_before q bs) r.at g is m) in (
+      both.0,
+      λ j n. (
+          let here : marked j bs ≡ true = where_marked bs g.reads j both.1 n in
+          let inside = marked_inside bs j here in
+          kept q more (bs ++ x ∷ []) j (omega (arith, longer, inside)) ∙ front bs (x ∷ []) j inside ∙ here),
+    )
+arguments_before q (r ∷ more) bs (suc b) h g m =
     let x : Bool = list_all (form_before q bs) r.at in
     let place : length bs + suc b ≡ length (bs ++ x ∷ []) + b = omega (arith, length-append bs (x ∷ [])) in
-    arguments_marked q more (bs ++ x ∷ []) b (subst (λ (i : ℕ). marked i (befores_from q (bs ++ x ∷ []) more) ≡ true) place h) g m j n
+    arguments_before q more (bs ++ x ∷ []) b (subst (λ (i : ℕ). marked i (befores_from q (bs ++ x ∷ []) more) ≡ true) place h) g m
 
 end_in : (ns : List ℕ) (i j : ℕ) → IsIn j (ns ++ i ∷ []) → IsIn j ns ⊎ (j ≡ i)
 end_in [] i j (inl e) = inr e
@@ -123,7 +127,7 @@ module _ (q : ℕ) (table : List Read) where
   inner_marked : (b : ℕ) → IsMarked b → (g : Affine) → IsIn g (arguments (slice_get table b)) → (j : ℕ) → (number_at j g.reads ≡ pos 0 → ⊥) → IsMarked j
   inner_marked b own g m j n =
       let place : b ≡ 0 + b = omega arith in
-      arguments_marked q table [] b (subst IsMarked place own) g m j n
+      (arguments_before q table [] b (subst IsMarked place own) g m).1 j n
 
   pub named_marked : (ns : List ℕ) (f : Affine) → AreMarked ns → HoldsMarked f → AreMarked (named table ns f)
   named_marked = named_have table IsMarked inner_marked
