@@ -1,6 +1,6 @@
 mod Widths
 mod Finding
-mod Ordered
+pub mod Ordered
 mod Tested
 mod Small
 mod Shifted

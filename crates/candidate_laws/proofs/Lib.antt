@@ -1,0 +1,2 @@
+mod Membership
+mod Worked

@@ -1,0 +1,5 @@
+mod Staying
+mod Room
+mod Finding
+mod Commands
+mod Worked
