@@ -30,10 +30,10 @@ use Rattle.unroll.specs.Places.{further, roomy_positions}
 use Rattle.piece_laws.proofs.Pieces.{placed_pieces}
 use Rattle.move_laws.specs.Moves.{moves_of_all}
 use Rattle.tested_laws.specs.Testing.{applies_to}
-use Rattle.others_laws.specs.Others.{StandAlike, LeaveOthers, AreMovesOf, by_permute, by_tile, by_skew, by_shift, by_fuse, by_distribute, by_unroll, CommandsLeaveOthers, OthersOfCommandsStay}
-use Rattle.others_laws.proofs.Finding.{Leaves, AllLeave, leave_others}
-use Rattle.others_laws.proofs.Room.{roomy, roomy-length, roomy-alike}
-use Rattle.others_laws.proofs.Staying.{left_instances_stay}
+use Rattle.order_laws.specs.Others.{StandAlike, LeaveOthers, AreMovesOf, by_permute, by_tile, by_skew, by_shift, by_fuse, by_distribute, by_unroll, CommandsLeaveOthers, OthersOfCommandsStay}
+use Rattle.order_laws.proofs.Finding.{Leaves, AllLeave, leave_others}
+use Rattle.order_laws.proofs.Room.{roomy, roomy-length, roomy-alike}
+use Rattle.order_laws.proofs.Staying.{left_instances_stay}
 
 same : List ℕ → List ℕ
 same ps = ps
@@ -42,7 +42,7 @@ same-alike : (ps qs : List ℕ) → StandAlike ps qs (same ps) (same qs)
 unfolding same
 same-alike ps qs = record { shares = refl; before = λ h. h }
 
-only-one : {A : Type 0} (p q : A) → IsIn p (q ∷ []) → p ≡ q
+pub only-one : {A : Type 0} (p q : A) → IsIn p (q ∷ []) → p ≡ q
 only-one p q (inl e) = e
 only-one p q (inr a) = absurd a
 
@@ -59,14 +59,14 @@ changes-leave : (params : ℕ) (change : Change) (bs : List Bool) (ns : List Nes
 changes-leave params change bs [] = tt
 changes-leave params change [] (n ∷ ns) = tt
 changes-leave params change (b ∷ bs) (n ∷ ns) =
-    (λ off p a. stays params n p (only-one p (piece_of params (cond b change Stay) n) a ∙ ap (λ (c : Bool). piece_of params (cond c change Stay) n) off), changes-leave params change bs ns)
+    (λ p a off. stays params n p (only-one p (piece_of params (cond b change Stay) n) a ∙ ap (λ (c : Bool). piece_of params (cond c change Stay) n) off), changes-leave params change bs ns)
 
 -- ---- fuse
 fuse-leaves : (params level loop count : ℕ) (a b : Nest) (ns : List Nest) → AllLeave params same (map (in_either level a b) ns) ns (pieces_at params ns (map (fused_positions level loop count b) ns))
 unfolding same
 fuse-leaves params level loop count a b [] = tt
 fuse-leaves params level loop count a b (n ∷ ns) =
-    (λ off p i. stays-at params same n (fused_positions level loop count b n) p (keeps (shares_loop level a n) (shares_loop level b n) refl off) (only-one p _ i), fuse-leaves params level loop count a b ns)
+    (λ p i off. stays-at params same n (fused_positions level loop count b n) p (keeps (shares_loop level a n) (shares_loop level b n) refl off) (only-one p _ i), fuse-leaves params level loop count a b ns)
   where
     keeps : (x y : Bool) → shares_loop level b n ≡ y → (x || y) ≡ false → fused_positions level loop count b n ≡ n.positions
     keeps true y e off = absurd cc
@@ -81,7 +81,7 @@ make-room level n m = ap (λ (v : ℕ). cond (is_behind level n m) (slice_set m.
 split-leaves : (params level s : ℕ) (n : Nest) (i : ℕ) (ns : List Nest) → AllLeave params (roomy 1 (level - 1) n.positions) (sharers level n ns) ns (pieces_at params ns (split_each level s n i ns))
 split-leaves params level s n i [] = tt
 split-leaves params level s n i (m ∷ ns) = (
-  λ off p a. stays-at params (roomy 1 (level - 1) n.positions) m (split_positions level s n i m) p
+  λ p a off. stays-at params (roomy 1 (level - 1) n.positions) m (split_positions level s n i m) p
       (ap (λ (b : Bool). cond (cond b (nat_le s i) (is_behind level n m)) (one_further level m.positions) m.positions) off ∙ make-room level n m) (only-one p _ a),
   split-leaves params level s n (suc i) ns,
 )
@@ -110,17 +110,17 @@ unroll-leaves params level factor count rests n [] roles e = tt
 unroll-leaves params level factor count rests n (m ∷ ns) [] e = tt
 unroll-leaves params level factor count rests n (m ∷ ns) (r ∷ rs) e =
     let b = both-there (role_of params level n m) (roles_of params level n ns) r rs e in (
-      λ off p a. stays-at params (roomy rests (level - 1) n.positions) m (roomy_positions level n m rests) p (more-room level n m rests)
+      λ p a off. stays-at params (roomy rests (level - 1) n.positions) m (roomy_positions level n m rests) p (more-room level n m rests)
           (only-one p _ (subst (λ (x : Role). IsIn p (unroll.pieces_of params level factor count rests n m x)) (stays-outside params level n m r b.0 off) a)),
       unroll-leaves params level factor count rests n ns rs b.1,
     )
 
 -- ---- all commands
-judged-ok : {A : Type 0} (o : Option ShapeWhy) (x y : A) → judged o x ≡ Ok y → x ≡ y
+pub judged-ok : {A : Type 0} (o : Option ShapeWhy) (x y : A) → judged o x ≡ Ok y → x ≡ y
 judged-ok None x y e = cc
 judged-ok (Some why) x y e = absurd cc
 
-unless-some : (b : Bool) (x m : Moves) → cond b None (Some x) ≡ Some m → x ≡ m
+pub unless-some : (b : Bool) (x m : Moves) → cond b None (Some x) ≡ Some m → x ≡ m
 unless-some true x m e = absurd cc
 unless-some false x m e = cc
 

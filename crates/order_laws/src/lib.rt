@@ -1,8 +1,9 @@
-//! Statements to which a command doesn't apply keep their order: each function here carries one law as its contract.
+//! The order of instances that commands keep without a test: each function here carries one law as its contract.
 #![tactic(auto)]
 
-ghost use Rattle.others_laws.specs.Others.{LeftStay, CommandsLeaveOthers, OthersOfCommandsStay};
-ghost use Rattle.others_laws.specs.Examples.{SplitLoop};
+ghost use Rattle.order_laws.specs.Others.{LeftStay, CommandsLeaveOthers, OthersOfCommandsStay};
+ghost use Rattle.order_laws.specs.Skewing.{SkewChangesNone};
+ghost use Rattle.order_laws.specs.Examples.{SplitLoop};
 
 /// Two instances of statements that are left as they are don't change their order.
 pub fn left_stay()
@@ -17,6 +18,11 @@ pub fn commands_leave_others()
 /// So two instances to which a command doesn't apply don't change their order.
 pub fn others_of_commands_stay()
     ensures { OthersOfCommandsStay }
+{}
+
+/// `skew` changes the order of no two instances.
+pub fn skew_changes_none()
+    ensures { SkewChangesNone }
 {}
 
 /// A loop of two statements is split, and the statement behind it makes room.

@@ -18,9 +18,9 @@ use Rattle.nest_laws.proofs.Lists.{in_append}
 use Rattle.move_laws.specs.Moves.{move_of, moves_of_one, moves_of_all}
 use Rattle.tested_laws.specs.Testing.{flag_at, applies_to}
 use Rattle.tested_laws.proofs.Ordered.{IsEarlier, told-apart, in_order}
-use Rattle.others_laws.specs.Others.{StandAlike, LeaveOthers}
+use Rattle.order_laws.specs.Others.{StandAlike, LeaveOthers}
 
-each-in : {A : Type 0} (P : A → Type 0) (xs : List A) (x : A) → AllByRecursion P xs → IsIn x xs → P x
+pub each-in : {A : Type 0} (P : A → Type 0) (xs : List A) (x : A) → AllByRecursion P xs → IsIn x xs → P x
 each-in P [] x h a = absurd a
 each-in P (y ∷ ys) x h (inl e) = subst P (sym e) h.0
 each-in P (y ∷ ys) x h (inr a) = each-in P ys x h.1 a
@@ -30,12 +30,16 @@ pub record Leaves (params : ℕ) (r : List ℕ → List ℕ) (n : Nest) (p : Pie
   pub placed : IsPlacedPiece params (length n.levels) p
   pub positions : p.positions ≡ r n.positions
 
--- all pieces of each statement to which a command doesn't apply are such
+-- each piece of a statement, with the flag of the statement, is such
+abbrev pub AllHave : (Bool → Nest → Piece → Type 0) → List Bool → List Nest → List (List Piece) → Type 0
+AllHave P bs [] pss = Unit
+AllHave P bs (n ∷ ns) [] = Unit
+AllHave P [] (n ∷ ns) (ps ∷ pss) = ⊥
+AllHave P (b ∷ bs) (n ∷ ns) (ps ∷ pss) = ((p : Piece) → IsIn p ps → P b n p) × AllHave P bs ns pss
+
+-- all pieces of each statement to which a command doesn't apply leave it
 abbrev pub AllLeave : ℕ → (List ℕ → List ℕ) → List Bool → List Nest → List (List Piece) → Type 0
-AllLeave params r bs [] pss = Unit
-AllLeave params r bs (n ∷ ns) [] = Unit
-AllLeave params r [] (n ∷ ns) (ps ∷ pss) = ⊥
-AllLeave params r (b ∷ bs) (n ∷ ns) (ps ∷ pss) = (b ≡ false → (p : Piece) → IsIn p ps → Leaves params r n p) × AllLeave params r bs ns pss
+AllLeave params r = AllHave (λ b n p. b ≡ false → Leaves params r n p)
 
 -- a move of one statement has a piece of it
 one-move : (params : ℕ) (alone : Bool) (n : Nest) (ps : List Piece) (xs : List Move) → each_made (move_of params alone n) ps ≡ Ok xs → (x : Move) → IsIn x xs → (x.old ≡ n) × IsIn x.piece ps
@@ -56,9 +60,9 @@ first-flag n ns b bs ps e = ap (λ (c : Bool). cond c b (flag_at ns bs ps)) ((by
 further-flag : (n : Nest) (ns : List Nest) (b : Bool) (bs : List Bool) (ps : List ℕ) → bytes_eq n.positions ps ≡ false → flag_at (n ∷ ns) (b ∷ bs) ps ≡ flag_at ns bs ps
 further-flag n ns b bs ps e = ap (λ (c : Bool). cond c b (flag_at ns bs ps)) e
 
-module _ (params : ℕ) (r : List ℕ → List ℕ) where
-  find : (bs : List Bool) (ns : List Nest) (pss : List (List Piece)) (moves : List Move) → AllLeave params r bs ns pss → IsStrictlySorted IsEarlier ns → moves_of_all params ns pss ≡ Ok moves
-      → (x : Move) → IsIn x moves → IsIn x.old ns × (flag_at ns bs (x.old).positions ≡ false → Leaves params r x.old x.piece)
+module _ (params : ℕ) (P : Bool → Nest → Piece → Type 0) where
+  pub find : (bs : List Bool) (ns : List Nest) (pss : List (List Piece)) (moves : List Move) → AllHave P bs ns pss → IsStrictlySorted IsEarlier ns → moves_of_all params ns pss ≡ Ok moves
+      → (x : Move) → IsIn x moves → IsIn x.old ns × P (flag_at ns bs (x.old).positions) x.old x.piece
   find bs [] pss moves h s e x a = absurd (let is : moves ≡ [] = cc in subst (λ (l : List Move). IsIn x l) is a)
   find bs (n ∷ ns) [] moves h s e x a = absurd (let is : moves ≡ [] = cc in subst (λ (l : List Move). IsIn x l) is a)
   find [] (n ∷ ns) (ps ∷ pss) moves h s e x a = absurd h
@@ -68,17 +72,17 @@ module _ (params : ℕ) (r : List ℕ → List ℕ) where
         | inl y ↦ (
             let c = one-move params (is_one ps) n ps o.0 o.2 x y in
             let flag : flag_at (n ∷ ns) (b ∷ bs) (x.old).positions ≡ b = first-flag n ns b bs (x.old).positions (ap (λ (w : Nest). w.positions) c.0) in
-            (inl c.0, λ off. subst (λ (w : Nest). Leaves params r w x.piece) (sym c.0) (h.0 (sym flag ∙ off) x.piece c.1)))
+            (inl c.0, subst₂ (λ (f : Bool) (w : Nest). P f w x.piece) (sym flag) (sym c.0) (h.0 x.piece c.1)))
         | inr z ↦ (
             let g = find bs ns pss o.1 h.1 s.1 o.3 x z in
             let flag : flag_at (n ∷ ns) (b ∷ bs) (x.old).positions ≡ flag_at ns bs (x.old).positions = further-flag n ns b bs (x.old).positions (told-apart n.positions (x.old).positions (s.0 x.old g.0)) in
-            (inr g.0, λ off. g.1 (sym flag ∙ off)))
+            (inr g.0, subst (λ (f : Bool). P f x.old x.piece) (sym flag) g.1))
       ]
 
 pub leave_others : (k : Kernel) (m : Moves) (moves : List Move) (r : List ℕ → List ℕ) → IsShaped k → ((ps : List ℕ) → length (r ps) ≡ length ps) → ((ps qs : List ℕ) → StandAlike ps qs (r ps) (r qs))
     → AllLeave (length k.head.params) r m.applies k.nests m.pieces → moves_of_all (length k.head.params) k.nests m.pieces ≡ Ok moves → LeaveOthers (length k.head.params) (applies_to k m) moves
 leave_others k m moves r shaped long alike h e =
-    let found = find (length k.head.params) r m.applies k.nests m.pieces moves h (in_order k shaped) e in
+    let found = find (length k.head.params) (λ b n p. b ≡ false → Leaves (length k.head.params) r n p) m.applies k.nests m.pieces moves h (in_order k shaped) e in
     let left = λ (x : Move) (a : IsIn x moves) (off : applies_to k m x ≡ false). (found x a).1 off in
     record {
       left = λ x a off. (

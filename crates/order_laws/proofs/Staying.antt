@@ -12,7 +12,7 @@ use Rattle.nest_laws.proofs.Lists.{pairs-map}
 use Rattle.nest_laws.proofs.Narrow.{like-value}
 use Rattle.nest_laws.proofs.Places.{order_of_places}
 use Rattle.nest_laws.proofs.Rewriting.{instance-depth}
-use Rattle.others_laws.specs.Others.{IsLeft, StandAlike, LeftStay}
+use Rattle.order_laws.specs.Others.{IsLeft, StandAlike, LeftStay}
 
 -- the levels of a statement that is left keep their values
 same-levels : (i : Input) (x : Move) (vs ws : List ℤ) → IsLeft (length i.params) x → Gives i x vs ws → ws ≡ vs

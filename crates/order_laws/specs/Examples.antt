@@ -10,7 +10,7 @@ use Rattle.fuse_distribute.specs.Distributing.{distribute_moves}
 use Rattle.kernel_laws.specs.Examples.{head, ones}
 use Rattle.move_laws.specs.Moves.{moves_of_all}
 use Rattle.tested_laws.specs.Testing.{applies_to}
-use Rattle.others_laws.specs.Others.{LeaveOthers}
+use Rattle.order_laws.specs.Others.{LeaveOthers}
 
 -- y[i] = 1 for i from 0 to below n, at these positions
 abbrev pub ones_at : List ℕ → Nest

@@ -19,9 +19,9 @@ use Rattle.affine_moves.specs.Change.{place_of, padded, unit, old_form, new_rows
 use Rattle.fuse_distribute.specs.Distributing.{distribute_moves, one_further}
 use Rattle.kernel_laws.specs.Examples.{head, form}
 use Rattle.move_laws.specs.Moves.{moves_of_all}
-use Rattle.others_laws.specs.Others.{by_distribute}
-use Rattle.others_laws.specs.Examples.{ones_at, kernel, SplitLoop}
-use Rattle.others_laws.proofs.Commands.{commands_leave}
+use Rattle.order_laws.specs.Others.{by_distribute}
+use Rattle.order_laws.specs.Examples.{ones_at, kernel, SplitLoop}
+use Rattle.order_laws.proofs.Commands.{commands_leave}
 
 -- the level is the new level
 piece_to : List ℕ → Piece

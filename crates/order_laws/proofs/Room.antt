@@ -5,7 +5,7 @@ use Rattle.std.proofs.lemmas.Bool.{eqb-true, eq-eqb, eqb-false, ne_eqb, ltb-true
 use Rattle.std.proofs.lemmas.Int.{ints}
 use Rattle.nest_tree.specs.Carriers.{shared}
 use Rattle.nest_tree.specs.Places.{IsBefore, IsTextBefore}
-use Rattle.others_laws.specs.Others.{StandAlike}
+use Rattle.order_laws.specs.Others.{StandAlike}
 
 -- the positions of a statement that stands behind that loop, in the loops around it, so many children further; any other's as they are
 abbrev pub roomy : ℕ → ℕ → List ℕ → List ℕ → List ℕ

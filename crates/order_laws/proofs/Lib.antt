@@ -2,4 +2,5 @@ mod Staying
 mod Room
 mod Finding
 mod Commands
+mod Skewing
 mod Worked

@@ -1,5 +1,0 @@
-use Rattle.others_laws.proofs.Staying.{left_instances_stay}
-use Rattle.others_laws.proofs.left_stay.Goals as goal
-
-pub returns : goal.returns
-returns c = left_instances_stay

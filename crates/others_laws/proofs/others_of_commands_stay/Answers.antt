@@ -1,5 +1,0 @@
-use Rattle.others_laws.proofs.Commands.{others_stay}
-use Rattle.others_laws.proofs.others_of_commands_stay.Goals as goal
-
-pub returns : goal.returns
-returns c = others_stay

@@ -1,5 +1,0 @@
-use Rattle.others_laws.proofs.Worked.{split_loop}
-use Rattle.others_laws.proofs.split_loop.Goals as goal
-
-pub returns : goal.returns
-returns c = split_loop
